@@ -1,12 +1,12 @@
 -- Each step that leaves a call going lowers how many it may still make.
-use Rattle.std.proofs.Common.{◌≡◌, ◌≢◌, ℕ, suc, ◌+◌, ◌<◌, ◌≤◌, ◌==◌, nat_lt, not, Bool, true, false, cond, List, [], ◌∷◌, ◌++◌, length, drop, Option, Some, None, is_some, unwrap_or, refl, sym, ap, ◌∙◌, subst, arith}
+use Rattle.std.proofs.Common.{◌≡◌, ◌≢◌, ℕ, suc, ◌+◌, ◌*◌, ◌<◌, ◌≤◌, ◌==◌, nat_lt, not, Bool, true, false, cond, List, [], ◌∷◌, ◌++◌, length, map, drop, Option, Some, None, is_some, unwrap_or, refl, sym, ap, ◌∙◌, subst, arith}
 use Rattle.std.proofs.lemmas.List.{length-append}
 use Rattle.std.proofs.lemmas.Bool.{eq-eqb}
 use Rattle.std.proofs.lemmas.Bool.Decides.{nat_tests}
 use Rattle.moka_hist.specs.State.{Call, DeskPart, World}
-use Rattle.moka_hist.specs.Plan.{Item, Aim, Change, Removal, look, loaded, load_rest, end_load, put, take_out, under_lock, is_disabled}
+use Rattle.moka_hist.specs.Plan.{Item, Aim, Change, Removal, look, loaded, load_rest, end_load, put, take_out, under_lock, is_disabled, walks}
 use Rattle.moka_hist.specs.Plan as plan
-use Rattle.moka_hist.specs.Next.{Next, goes, stays, waits, asks, answers}
+use Rattle.moka_hist.specs.Next.{Next, goes, stays, waits, gives, asks, answers}
 use Rattle.moka_hist.specs.Visits.{claimed, claimed_alone, unlocked, is_running, is_unlocked_for, locked_by, settlement_for, is_free_for, finds, claim_of, has_room, is_seen}
 use Rattle.moka_hist.specs.Posting.{once_ended, after_drain, after_post, after_turn, after_apply}
 use Rattle.moka_hist.specs.Looking.{hits, misses, keeps, kept_rest, chosen_or_not, finds_pair, after_get, after_judge, after_holds}
@@ -16,6 +16,7 @@ use Rattle.moka_hist.specs.Entries.{unchanged}
 use Rattle.moka_hist.specs.Conditions.{HasUnsettled}
 use Rattle.moka_hist.specs.Computing.{compute_rest, report_rest, end_compute, put_told, after_own_key, after_own_alone, after_read_key, after_told_op}
 use Rattle.moka_hist.specs.Listening.{after_lock, after_hearing, after_notice}
+use Rattle.moka_hist.specs.Walking.{after_list, after_find, after_scan}
 use Rattle.moka_hist.specs.Step.{Gets, May, access_of, access_for, replace_of, next_of, after_table, after_visit, going_as}
 use Rattle.moka_hist.specs.declared.records.Mode.{Mode}
 use Rattle.moka_hist.specs.declared.records.Stored.{Stored}
@@ -40,6 +41,7 @@ use Rattle.moka_hist.specs.declared.visits.Claim.TheVariants as claim
 use Rattle.moka_hist.specs.declared.visits.Settled.{Settled}
 use Rattle.moka_hist.specs.declared.visits.Settled.TheVariants as settled
 use Rattle.moka_hist.specs.declared.visits.Visit.TheVariants as visit
+use Rattle.moka_hist.specs.declared.visits.Found.{Found}
 use Rattle.moka_hist.specs.declared.visits.Found.TheVariants as found
 use Rattle.moka_hist.specs.declared.replies.Answer.TheVariants as answer
 use Rattle.moka_hist.specs.declared.tables.TableAnswer.{TableAnswer}
@@ -48,8 +50,8 @@ use Rattle.moka_hist.specs.declared.tables.TableTurn.TheVariants as table
 use Rattle.moka_hist.specs.declared.accesses.Got.{Got}
 use Rattle.moka_hist.specs.declared.accesses.Got.TheVariants as got
 use Rattle.moka_hist.specs.declared.accesses.Turn.TheVariants as turn
-use Rattle.moka_bound.specs.Ahead.{Work, growth, post_steps, judge_steps, own_key_steps, steps_of, holds_steps, ahead}
-use Rattle.moka_bound.specs.Falling.{Counts, Shortens, GoingFalls}
+use Rattle.moka_bound.specs.Ahead.{Work, growth, post_steps, judge_steps, own_key_steps, steps_of, holds_steps, ahead, ahead_of_plan}
+use Rattle.moka_bound.specs.Falling.{Counts, Shortens, GoingFalls, raised, keys_in}
 use Rattle.moka_bound.proofs.More.{more, judge_more, ended_worst, post_worst}
 
 -- whether the log has room for a write
@@ -77,15 +79,31 @@ some_left k = grind (arith, nat_tests)
 some_room : (size : ℕ) → 0 < size → nat_lt 0 size ≡ true
 some_room size h = grind (arith, nat_tests)
 
+product_more : (a b c d : ℕ) → a ≤ b → c ≤ d → a * (c + 2) ≤ b * (d + 2)
+product_more a b c d h k = grind arith
+
+product_none : (a b c : ℕ) → a ≡ 0 → a * b ≤ c
+product_none a b c e = rw e (omega arith)
+
+-- so many keys fewer are yet to be listed after a list that gave them
+listed_less : (k given j most less : ℕ) → k + given ≤ j → less ≤ most → k * (less + 2) + given * (less + 2) ≤ j * (most + 2)
+listed_less k given j most less h m =
+    let p : (k + given) * (less + 2) ≤ j * (most + 2) = product_more (k + given) j less most h m in omega arith
+
 module _ {K V E : Type 0} where
-  -- the call, if it goes on, has fewer steps ahead than so many
+  -- the item lists, and its operation gave keys
+  abbrev lists : Item K V E → Got K V E → Bool
+  lists (plan.List_keys part) (got.Table (table.Decided (table_answer.Keys keys))) = true
+  lists _ _ = false
+
+  -- the call, if it goes on, has fewer steps ahead than so many, but for keys that are yet to be listed
   abbrev Falls : Work → ℕ → Next K V E → Type 0
-  Falls new bound next = next.turn ≡ turn.Going → (d : Call K V E) × (next ≡ going_as d) × (ahead new d < bound)
+  Falls new bound next = next.turn ≡ turn.Going → (d : Call K V E) × (next ≡ going_as d) × (ahead_of_plan new d < bound)
 
   never : (new : Work) (bound : ℕ) (next : Next K V E) → next.turn ≢ turn.Going → Falls new bound next
   never new bound next h e = absurd (h e)
 
-  falls_on : (new : Work) (bound : ℕ) (c : Call K V E) → ahead new c < bound → Falls new bound (record { left = Some c; turn = turn.Going })
+  falls_on : (new : Work) (bound : ℕ) (c : Call K V E) → ahead_of_plan new c < bound → Falls new bound (record { left = Some c; turn = turn.Going })
   falls_on new bound c h e = (c, refl, h)
 
   falls_goes : (new : Work) (bound : ℕ) (c : Call K V E) (rest : List (Item K V E)) →
@@ -477,6 +495,7 @@ module _ {K V E : Type 0} where
     get_falls : (aim : Aim K V) (rest : List (Item K V E)) (answer : TableAnswer K V) → (key : K) → Same old new →
         Falls new (bound_of old new c young (plan.Get aim key ∷ rest)) (after_get c aim (table.Decided answer))
     get_falls aim rest table_answer.None key s = misses_falls old new c young _ aim s (omega arith)
+    get_falls aim rest (table_answer.Keys keys) key s = never new _ (waits c) (λ e. cc)
     get_falls aim rest (table_answer.Some there stored) key s = finds_falls aim
       where
         chosen : (b : Bool) (key : K) (stamp : ℕ) (cause : Cause) →
@@ -516,6 +535,7 @@ module _ {K V E : Type 0} where
             Falls new (bound_of old new c young (plan.Write key value moment ∷ rest)) (goes c (once_told listener key answer (plan.Post x ∷ rest)))
         by false answer h r = falls_goes new _ c (plan.Post x ∷ rest) (omega (arith, h, l, r))
         by true table_answer.None h r = falls_goes new _ c (plan.Unlock true ∷ plan.Post x ∷ rest) (omega (arith, h, l, r))
+        by true (table_answer.Keys keys) h r = falls_goes new _ c (plan.Unlock true ∷ plan.Post x ∷ rest) (omega (arith, h, l, r))
         by true (table_answer.Some there stored) h r =
             falls_goes new _ c (plan.Notice key stored None true ∷ plan.Unlock true ∷ plan.Post x ∷ rest) (omega (arith, h, l, r))
 
@@ -526,101 +546,209 @@ module _ {K V E : Type 0} where
     out_falls : (removal : Removal K) (key : K) (rest : List (Item K V E)) (answer : TableAnswer K V) → Same old new →
         Falls new (bound_of old new c young (plan.Out removal key ∷ rest)) (after_out n c removal key (table.Decided answer))
     out_falls removal key rest table_answer.None s = nothing_falls old new c young _ removal c.rules.listener s (omega arith)
+    out_falls removal key rest (table_answer.Keys keys) s = never new _ (waits c) (λ e. cc)
     out_falls removal key rest (table_answer.Some there stored) s =
         removed_falls old new c young n _ removal key stored c.rules.listener s (omega arith)
 
     waits_falls : (bound : ℕ) → Falls new bound (waits c)
     waits_falls bound = never new bound (waits c) (λ e. cc)
 
+    -- a list or a look of a walk that stays undecided
+    list_stays : (part : ℕ) (rest : List (Item K V E)) → c.plan ≡ plan.List_keys part ∷ rest → Same old new → new.left < old.left →
+        Falls new (bound_of old new c young (plan.List_keys part ∷ rest)) (stays c)
+    list_stays part rest e s less =
+        let h = more rest new.owed old.owed new.most old.most c.aborts new.most old.most false false true true s.eases.owed s.eases.most s.eases.most (post_worst false) (ended_worst true) in
+        falls_on new _ (record c { mode = mode.Mid }) (rw e (omega (arith, h, s.logged, less)))
+
+    find_stays : (key : K) (rest : List (Item K V E)) → c.plan ≡ plan.Find key ∷ rest → Same old new → new.left < old.left →
+        Falls new (bound_of old new c young (plan.Find key ∷ rest)) (stays c)
+    find_stays key rest e s less =
+        let h = more rest new.owed old.owed new.most old.most c.aborts new.most old.most false false true true s.eases.owed s.eases.most s.eases.most (post_worst false) (ended_worst true) in
+        falls_on new _ (record c { mode = mode.Mid }) (rw e (omega (arith, h, s.logged, less)))
+
+    -- a look finds a record, which is judged, or none
+    find_falls : (key : K) (rest : List (Item K V E)) (answer : TableAnswer K V) → Same old new →
+        Falls new (bound_of old new c young (plan.Find key ∷ rest)) (after_find c rest (table.Decided answer))
+    find_falls key rest table_answer.None s =
+        let h = eased old new c.aborts false rest s.eases (post_worst (room_in new)) in
+        falls_goes new _ c rest (omega (arith, h, s.logged))
+    find_falls key rest (table_answer.Some there stored) s =
+        let h = more rest new.owed old.owed new.most old.most c.aborts new.most old.most false false true true s.eases.owed s.eases.most s.eases.most (post_worst false) (ended_worst true) in
+        falls_goes new _ c (plan.Scan there stored ∷ rest) (omega (arith, h, s.logged))
+    find_falls key rest (table_answer.Keys keys) s = never new _ (waits c) (λ e. cc)
+
+    scan_falls : (there : K) (stored : Stored V) (rest : List (Item K V E)) (seen : Bool) → Same old new →
+        Falls new (old.logged + (1 + steps_of old.owed old.most c.aborts false old.most true rest)) (after_scan c there stored rest (found.Scan seen))
+    scan_falls there stored rest true s = never new _ (gives c there stored.value rest) (λ e. cc)
+    scan_falls there stored rest false s = passes old new c young rest s
+
     on_item : (item : Item K V E) (rest : List (Item K V E)) (given : Got K V E) → c.plan ≡ item ∷ rest → May w (access_for n item) → Gets eq n w (access_for n item) given next →
-        Shortens old new (access_for n item) given → Falls new (bound_of old new c young (item ∷ rest)) (after item rest given)
-    on_item plan.Drain rest (got.Desk f) e m g h = rw g.0
+        Shortens old new (access_for n item) given → lists item given ≡ false → Falls new (bound_of old new c young (item ∷ rest)) (after item rest given)
+    on_item plan.Drain rest (got.Desk f) e m g h silent = rw g.0
         (drain_falls rest w.desk.owed refl (ap (λ v. length v.desk.owed) g.1) (ap (λ v. v.desk.log) g.1) (ap (λ v. v.desk.size) g.1) h.within (omega (arith, h.raises)))
-    on_item (plan.Post x) rest (got.Desk f) e m g h = rw g.0
+    on_item (plan.Post x) rest (got.Desk f) e m g h silent = rw g.0
         (post_falls x rest (has_room w.desk) refl (ap (λ v. length v.desk.log) g.1) (ap (λ v. length v.desk.owed) g.1) (ap (λ v. v.desk.size) g.1) h.within (omega (arith, h.raises)))
-    on_item plan.Apply rest (got.Desk f) e m g h = rw g.0
+    on_item plan.Apply rest (got.Desk f) e m g h silent = rw g.0
         (apply_falls rest w.desk.log refl (ap (λ v. length v.desk.log) g.1) (ap (λ v. length v.desk.owed) g.1) (ap (λ v. v.desk.size) g.1) h.within (omega (arith, h.raises)))
-    on_item plan.Turn rest (got.Desk f) e m g h = rw g.0 (turn_falls (is_free_for w.desk n))
+    on_item plan.Turn rest (got.Desk f) e m g h silent = rw g.0 (turn_falls (is_free_for w.desk n))
       where
         turn_falls : (b : Bool) → Falls new (bound_of old new c young (plan.Turn ∷ rest)) (after_turn c rest (found.TakeTurn b))
         turn_falls true = turns old new c young rest (leaves _ (ap (λ v. v.desk) g.1) (record { owed = refl; log = refl; size = refl }) h.within h.raises)
         turn_falls false = waits_falls _
-    on_item plan.End rest (got.Desk f) e m g h = rw g.0
+    on_item plan.End rest (got.Desk f) e m g h silent = rw g.0
         (ends old new c young rest (leaves _ (ap (λ v. v.desk) g.1) (record { owed = refl; log = refl; size = refl }) h.within h.raises))
-    on_item (plan.Judge aim key stored) rest (got.Desk f) e m g h = rw g.0
+    on_item (plan.Judge aim key stored) rest (got.Desk f) e m g h silent = rw g.0
         (judge_falls old new c young _ aim key stored (is_seen w.desk (replace_of aim) key stored)
         (leaves _ (ap (λ v. v.desk) g.1) (record { owed = refl; log = refl; size = refl }) h.within h.raises) (omega arith))
-    on_item (plan.Own sought) rest (got.Desk f) e m g h = rw g.0
+    on_item (plan.Own sought) rest (got.Desk f) e m g h silent = rw g.0
         (owns old new c young sought (claim_of (w.desk.owners sought.load))
         (leaves _ (ap (λ v. v.desk) g.1) (claimed_lists eq w.desk n sought.load (w.desk.owners sought.load)) h.within h.raises))
-    on_item (plan.Read sought) rest (got.Desk f) e m g h = rw g.0
+    on_item (plan.Read sought) rest (got.Desk f) e m g h silent = rw g.0
         (reads old new c young sought (unwrap_or (settlement_for w.desk n) settled.NotYet)
         (leaves _ (ap (λ v. v.desk) g.1) (either_lists (is_some (settlement_for w.desk n)) w.desk _ w.desk (record { owed = refl; log = refl; size = refl }) (same_lists w.desk)) h.within h.raises))
-    on_item (plan.Own_key compute) rest (got.Desk f) e m g h =
+    on_item (plan.Own_key compute) rest (got.Desk f) e m g h silent =
         let load : Load K = record { key = compute.key; kind = kind.Compute } in
         rw g.0 (own_key old new c young compute (claim_of (w.desk.owners load))
         (leaves _ (ap (λ v. v.desk) g.1) (claimed_lists eq w.desk n load (w.desk.owners load)) h.within h.raises)
         (λ owner waits. is.ended ∙ ap (λ v. is_some (settlement_for v.desk n)) g.1 ∙ waits_unended eq w.desk n load m.2 (w.desk.owners load) refl owner waits))
-    on_item (plan.Own_alone key) rest (got.Desk f) e m g h =
+    on_item (plan.Own_alone key) rest (got.Desk f) e m g h silent =
         let load : Load K = record { key = key; kind = kind.Compute } in
         rw g.0 (own_alone old new c young key (is_some (w.desk.owners load))
         (leaves _ (ap (λ v. v.desk) g.1) (alone_lists eq w.desk n load (w.desk.owners load)) h.within h.raises))
-    on_item (plan.Read_key compute) rest (got.Desk f) e m g h = rw g.0
+    on_item (plan.Read_key compute) rest (got.Desk f) e m g h silent = rw g.0
         (reads_key old new c young compute (settlement_for w.desk n)
         (leaves _ (ap (λ v. v.desk) g.1) (either_lists (is_some (settlement_for w.desk n)) w.desk _ w.desk (record { owed = refl; log = refl; size = refl }) (same_lists w.desk)) h.within h.raises) was.ended)
-    on_item (plan.Ask_op compute pair) rest (got.Desk f) e m g h = rw g.0 (never new _ (asks c (ask.Compute pair) (plan.Told_op compute pair ∷ [])) (λ d. cc))
-    on_item (plan.Told_op compute pair) rest (got.Desk f) e m g h = rw g.0
+    on_item (plan.Ask_op compute pair) rest (got.Desk f) e m g h silent = rw g.0 (never new _ (asks c (ask.Compute pair) (plan.Told_op compute pair ∷ [])) (λ d. cc))
+    on_item (plan.Told_op compute pair) rest (got.Desk f) e m g h silent = rw g.0
         (does_told old new c young compute pair (w.desk.told n) (leaves _ (ap (λ v. v.desk) g.1) (record { owed = refl; log = refl; size = refl }) h.within h.raises))
-    on_item (plan.Settle with) rest (got.Desk f) e m g h = rw g.0
+    on_item (plan.Settle with) rest (got.Desk f) e m g h silent = rw g.0
         (passes old new c young rest (leaves _ (ap (λ v. v.desk) g.1) (record { owed = refl; log = refl; size = refl }) h.within h.raises))
-    on_item (plan.Ask load) rest (got.Desk f) e m g h = rw g.0 (never new _ (asks c ask.Init (plan.Told load ∷ [])) (λ d. cc))
-    on_item (plan.Told load) rest (got.Desk f) e m g h = rw g.0
+    on_item (plan.Ask load) rest (got.Desk f) e m g h silent = rw g.0 (never new _ (asks c ask.Init (plan.Told load ∷ [])) (λ d. cc))
+    on_item (plan.Told load) rest (got.Desk f) e m g h silent = rw g.0
         (is_told old new c young load (w.desk.told n) (leaves _ (ap (λ v. v.desk) g.1) (record { owed = refl; log = refl; size = refl }) h.within h.raises))
-    on_item (plan.Ended number) rest (got.Desk f) e m g h = rw g.0
+    on_item (plan.Ended number) rest (got.Desk f) e m g h silent = rw g.0
         (hears old new c young rest (not (is_running w.desk number)) (leaves _ (ap (λ v. v.desk) g.1) (record { owed = refl; log = refl; size = refl }) h.within h.raises))
-    on_item plan.Heard rest (got.Desk f) e m g h = rw g.0
+    on_item plan.Heard rest (got.Desk f) e m g h silent = rw g.0
         (hears old new c young rest (not (is_running w.desk n)) (leaves _ (ap (λ v. v.desk) g.1) (record { owed = refl; log = refl; size = refl }) h.within h.raises))
-    on_item (plan.Lock key) rest (got.Desk f) e m g h = rw g.0
+    on_item (plan.Lock key) rest (got.Desk f) e m g h silent = rw g.0
         (locks old new c young key rest (is_unlocked_for w.desk n key)
         (leaves _ (ap (λ v. v.desk) g.1) (locked_lists eq w.desk n key (is_unlocked_for w.desk n key)) h.within h.raises))
-    on_item (plan.Unlock b) rest (got.Desk f) e m g h = rw g.0
+    on_item (plan.Unlock b) rest (got.Desk f) e m g h silent = rw g.0
         (passes old new c young rest (leaves _ (ap (λ v. v.desk) g.1) (unlocked_lists w.desk n b) h.within h.raises))
-    on_item plan.Idle rest (got.Desk f) e m g h = rw g.0
+    on_item plan.Idle rest (got.Desk f) e m g h silent = rw g.0
         (passes old new c young rest (leaves _ (ap (λ v. v.desk) g.1) (record { owed = refl; log = refl; size = refl }) h.within h.raises))
-    on_item plan.Invalidate_all rest (got.Desk f) e m g h = rw g.0
+    on_item plan.Invalidate_all rest (got.Desk f) e m g h silent = rw g.0
         (passes old new c young rest (leaves _ (ap (λ v. v.desk) g.1) (record { owed = refl; log = refl; size = refl }) h.within h.raises))
-    on_item (plan.Holds key stamp cause there stored) rest (got.Desk f) e m g h = rw g.0
+    on_item (plan.Holds key stamp cause there stored) rest (got.Desk f) e m g h silent = rw g.0
         (holds_falls old new c young key stamp cause _ (leaves w.desk (ap (λ v. v.desk) g.1) (same_lists w.desk) h.within h.raises))
-    on_item (plan.Notice key stored cause upsert) rest (got.Desk f) e m g h = rw g.0
+    on_item (plan.Notice key stored cause upsert) rest (got.Desk f) e m g h silent = rw g.0
         (tells old new c young key stored rest _ w.desk.off (leaves _ (ap (λ v. v.desk) g.1) (record { owed = refl; log = refl; size = refl }) h.within h.raises))
-    on_item (plan.Moment change) rest (got.Desk f) e m g h = rw g.0
+    on_item (plan.Moment change) rest (got.Desk f) e m g h silent = rw g.0
         (stamps old new c young change w.desk.clock rest (leaves _ (ap (λ v. v.desk) g.1) (record { owed = refl; log = refl; size = refl }) h.within h.raises))
-    on_item (plan.Reply a) rest (got.Desk f) e m g h = never new _ (answers a) (λ d. cc)
-    on_item (plan.Get aim key) rest (got.Table table.Going) e m g h = get_stays aim key rest e (leaves w.desk (ap (λ v. v.desk) g.1) (same_lists w.desk) h.within h.raises) (h.going refl)
-    on_item (plan.Get aim key) rest (got.Table (table.Decided answer)) e m g h =
+    on_item (plan.Reply a) rest (got.Desk f) e m g h silent = never new _ (answers a) (λ d. cc)
+    on_item (plan.Get aim key) rest (got.Table table.Going) e m g h silent = get_stays aim key rest e (leaves w.desk (ap (λ v. v.desk) g.1) (same_lists w.desk) h.within h.raises) (h.going refl)
+    on_item (plan.Get aim key) rest (got.Table (table.Decided answer)) e m g h silent =
         get_falls aim rest answer key (leaves w.desk (ap (λ v. v.desk) g.2) (same_lists w.desk) h.within h.raises)
-    on_item (plan.Write key value moment) rest (got.Table table.Going) e m g h = write_stays key value moment rest e (leaves w.desk (ap (λ v. v.desk) g.1) (same_lists w.desk) h.within h.raises) (h.going refl)
-    on_item (plan.Write key value moment) rest (got.Table (table.Decided answer)) e m g h =
+    on_item (plan.Write key value moment) rest (got.Table table.Going) e m g h silent = write_stays key value moment rest e (leaves w.desk (ap (λ v. v.desk) g.1) (same_lists w.desk) h.within h.raises) (h.going refl)
+    on_item (plan.Write key value moment) rest (got.Table (table.Decided answer)) e m g h silent =
         let d : next.desk ≡ w.desk = ap (λ v. v.desk) g.2 in
         wrote key value moment rest (Upsert n (old_stamp answer)) answer (is.owed ∙ ap (λ v. length v.owed) d ∙ sym was.owed)
         (is.logged ∙ ap (λ v. length v.log) d ∙ sym was.logged) h.raises
-    on_item (plan.Out removal key) rest (got.Table table.Going) e m g h =
+    on_item (plan.Out removal key) rest (got.Table table.Going) e m g h silent =
         out_stays removal key rest e (leaves w.desk (ap (λ v. v.desk) g.1) (same_lists w.desk) h.within h.raises) (h.going refl)
-    on_item (plan.Out removal key) rest (got.Table (table.Decided answer)) e m g h =
+    on_item (plan.Out removal key) rest (got.Table (table.Decided answer)) e m g h silent =
         out_falls removal key rest answer (leaves w.desk (ap (λ v. v.desk) g.2) (same_lists w.desk) h.within h.raises)
+    on_item (plan.List_keys part) rest (got.Table table.Going) e m g h silent =
+        list_stays part rest e (leaves w.desk (ap (λ v. v.desk) g.1) (same_lists w.desk) h.within h.raises) (h.going refl)
+    on_item (plan.List_keys part) rest (got.Table (table.Decided (table_answer.Keys keys))) e m g h silent = absurd cc
+    on_item (plan.List_keys part) rest (got.Table (table.Decided answer)) e m g h silent = never new _ (after_list c rest (table.Decided answer)) (λ d. cc)
+    on_item (plan.Find key) rest (got.Table table.Going) e m g h silent =
+        find_stays key rest e (leaves w.desk (ap (λ v. v.desk) g.1) (same_lists w.desk) h.within h.raises) (h.going refl)
+    on_item (plan.Find key) rest (got.Table (table.Decided answer)) e m g h silent =
+        find_falls key rest answer (leaves w.desk (ap (λ v. v.desk) g.2) (same_lists w.desk) h.within h.raises)
+    on_item (plan.Scan there stored) rest (got.Desk f) e m g h silent = rw g.0
+        (scan_falls there stored rest (is_seen w.desk None there stored) (leaves w.desk (ap (λ v. v.desk) g.1) (same_lists w.desk) h.within h.raises))
     -- no other answer is one of the item's access
-    on_item _ rest _ e m g h = absurd g
+    on_item _ rest _ e m g h silent = absurd g
+
+  -- no list is one of a desk's answers
+  desk_lists_none : (item : Item K V E) (f : Found V E) → lists item (got.Desk f) ≡ false
+  desk_lists_none (plan.List_keys part) f = refl
+  desk_lists_none _ f = refl
+
+  -- the keys that were listed are looked up, one after the other
+  found_falls : (keys : List K) (rest : List (Item K V E)) (owed most aborts left : ℕ) (room ended : Bool) → left ≤ most →
+      steps_of owed most aborts room left ended (map plan.Find keys ++ rest) ≤ length keys * (most + 2) + steps_of owed most aborts false most true rest
+  found_falls [] rest owed most aborts left room ended h =
+      let m = more rest owed owed most most aborts left most room false ended true (omega arith) (omega arith) h (post_worst room) (ended_worst ended) in omega (arith, m)
+  found_falls (key ∷ keys) rest owed most aborts left room ended h =
+      let m = found_falls keys rest owed most aborts most false true (omega arith) in omega (arith, m, h)
+
+  -- a step of a walk lets no later operation need more
+  raises_nothing : (n : ℕ) (item : Item K V E) (rest : List (Item K V E)) (given : Got K V E) → walks (item ∷ rest) ≡ true → raised (access_for n item) given ≡ 0
+  raises_nothing n (plan.List_keys part) rest given e = refl
+  raises_nothing n (plan.Find key) rest given e = refl
+  raises_nothing n (plan.Scan there stored) rest given e = refl
+  raises_nothing n _ rest given e = absurd cc
+
+  -- what is yet to be listed takes no more steps than before
+  keys_ease : (n : ℕ) (item : Item K V E) (rest : List (Item K V E)) (given : Got K V E) (old new : Work) →
+      (walks (item ∷ rest) ≡ false → old.keys ≡ 0) → Shortens old new (access_for n item) given →
+      new.keys * (new.most + 2) ≤ old.keys * (old.most + 2)
+  keys_ease n item rest given old new none h = by (walks (item ∷ rest)) refl
+    where
+      by : (b : Bool) → walks (item ∷ rest) ≡ b → new.keys * (new.most + 2) ≤ old.keys * (old.most + 2)
+      by true e =
+          let raises : new.most ≤ old.most + raised (access_for n item) given = h.raises in
+          let flat : raised (access_for n item) given ≡ 0 = raises_nothing n item rest given e in
+          let less : new.keys + keys_in given ≤ old.keys = h.keys in
+          product_more new.keys old.keys new.most old.most (omega arith) (omega arith)
+      by false e =
+          let less : new.keys + keys_in given ≤ old.keys = h.keys in
+          let flat : old.keys ≡ 0 = none e in
+          product_none new.keys (new.most + 2) (old.keys * (old.most + 2)) (omega arith)
+
+  -- the call, if it goes on, has fewer steps ahead than so many, those for keys that are yet to be
+  -- listed among them
+  abbrev FallsIn : Work → ℕ → Next K V E → Type 0
+  FallsIn new bound next = next.turn ≡ turn.Going → (d : Call K V E) × (next ≡ going_as d) × (ahead new d < bound)
+
+  with_keys : (old new : Work) (bound : ℕ) (next : Next K V E) → new.keys * (new.most + 2) ≤ old.keys * (old.most + 2) → Falls new bound next →
+      FallsIn new (old.keys * (old.most + 2) + bound) next
+  with_keys old new bound next less falls going =
+      let f = falls going in
+      let h : ahead_of_plan new f.0 < bound = f.2 in
+      (f.0, f.1, omega (arith, h, less))
+
+  -- a list gives keys
+  list_falls : (c : Call K V E) (old new : Work) (keys : List K) (rest : List (Item K V E)) → Same old new → new.keys + length keys ≤ old.keys →
+      FallsIn new (old.keys * (old.most + 2) + (old.logged + (old.left + 1 + steps_of old.owed old.most c.aborts false old.most true rest)))
+      (goes c (map plan.Find keys ++ rest))
+  list_falls c old new keys rest s less going =
+      let m = more rest new.owed old.owed new.most old.most c.aborts new.most old.most false false true true s.eases.owed s.eases.most s.eases.most (post_worst false) (ended_worst true) in
+      let k = found_falls keys rest new.owed new.most c.aborts new.left (room_in new) new.ended s.eases.within in
+      let f = falls_goes new (old.logged + (1 + (length keys * (new.most + 2) + steps_of old.owed old.most c.aborts false old.most true rest))) c
+      (map plan.Find keys ++ rest) (omega (arith, m, k, s.logged)) going in
+      let h : ahead_of_plan new f.0 < old.logged + (1 + (length keys * (new.most + 2) + steps_of old.owed old.most c.aborts false old.most true rest)) = f.2 in
+      (f.0, f.1, omega (arith, h, listed_less new.keys (length keys) old.keys old.most new.most less s.eases.most))
 
   by_plan : (eq : K → K → Bool) (n : ℕ) (rules : Rules) (how : Mode) (p : List (Item K V E)) (aborts : ℕ) (w next : World K V E) (given : Got K V E) (old new : Work) →
       let c : Call K V E = record { rules = rules; mode = how; plan = p; aborts = aborts } in
-      aborts < retries → 0 < old.size → May w (access_of n c) → Gets eq n w (access_of n c) given next → Counts n w old → Counts n next new →
-      Shortens old new (access_of n c) given → Falls new (ahead old c) (next_of n c given)
-  by_plan eq n rules how [] aborts w next given old new young has_log m g was is h = waits_falls eq n (record { rules = rules; mode = how; plan = []; aborts = aborts }) w next old new young has_log was is _
-  by_plan eq n rules how (item ∷ rest) aborts w next (got.Table t) old new young has_log m g was is h =
-      on_item eq n (record { rules = rules; mode = how; plan = item ∷ rest; aborts = aborts }) w next old new young has_log was is item rest (got.Table t) refl m g h
-  by_plan eq n rules how (item ∷ rest) aborts w next (got.Desk f) old new young has_log m g was is h =
-      on_item eq n (record { rules = rules; mode = how; plan = item ∷ rest; aborts = aborts }) w next old new young has_log was is item rest (got.Desk f) refl m g h
+      aborts < retries → 0 < old.size → (walks p ≡ false → old.keys ≡ 0) → May w (access_of n c) → Gets eq n w (access_of n c) given next →
+      Counts n w old → Counts n next new → Shortens old new (access_of n c) given → FallsIn new (ahead old c) (next_of n c given)
+  by_plan eq n rules how [] aborts w next given old new young has_log none m g was is h = λ e. absurd cc
+  by_plan eq n rules how (plan.List_keys part ∷ rest) aborts w next (got.Table (table.Decided (table_answer.Keys keys))) old new young has_log none m g was is h =
+      let c : Call K V E = record { rules = rules; mode = how; plan = plan.List_keys part ∷ rest; aborts = aborts } in
+      list_falls c old new keys rest (leaves eq n c w next old new young has_log was is w.desk (ap (λ v. v.desk) g.2) (same_lists w.desk) h.within h.raises) h.keys
+  by_plan eq n rules how (item ∷ rest) aborts w next (got.Table t) old new young has_log none m g was is h =
+      let c : Call K V E = record { rules = rules; mode = how; plan = item ∷ rest; aborts = aborts } in
+      with_keys old new _ _ (keys_ease n item rest (got.Table t) old new none h)
+      (on_item eq n c w next old new young has_log was is item rest (got.Table t) refl m g h refl)
+  by_plan eq n rules how (item ∷ rest) aborts w next (got.Desk f) old new young has_log none m g was is h =
+      let c : Call K V E = record { rules = rules; mode = how; plan = item ∷ rest; aborts = aborts } in
+      with_keys old new _ _ (keys_ease n item rest (got.Desk f) old new none h)
+      (on_item eq n c w next old new young has_log was is item rest (got.Desk f) refl m g h (desk_lists_none item f))
 
   pub going_falls : (eq : K → K → Bool) → GoingFalls K V E eq
-  going_falls eq n c w next given old new young has_log m g was is h going =
-      by_plan eq n c.rules c.mode c.plan c.aborts w next given old new young has_log m g was is h going
+  going_falls eq n c w next given old new young has_log none m g was is h going =
+      by_plan eq n c.rules c.mode c.plan c.aborts w next given old new young has_log none m g was is h going

@@ -68,6 +68,10 @@ module _ {K V E : Type 0} where
   more (plan.Moment (plan.To_take_out removal key) ∷ rest) o o' m m' aborts l l' r r' e e' ho hm hl hr he = omega (arith, hm)
   more (plan.Holds key stamp cause there found ∷ rest) o o' m m' aborts l l' r r' e e' ho hm hl hr he = omega (arith, hm)
   more (plan.Out removal key ∷ rest) o o' m m' aborts l l' r r' e e' ho hm hl hr he = omega (arith, hl)
+  more (plan.List_keys part ∷ rest) o o' m m' aborts l l' r r' e e' ho hm hl hr he =
+      let h = more rest o o' m m' aborts m m' false false true true ho hm hm (same_room false) (same_end true) in omega (arith, h, hl)
+  more (plan.Find key ∷ rest) o o' m m' aborts l l' r r' e e' ho hm hl hr he =
+      let h = more rest o o' m m' aborts m m' false false true true ho hm hm (same_room false) (same_end true) in omega (arith, h, hl)
   more (plan.Reply answer ∷ rest) o o' m m' aborts l l' r r' e e' ho hm hl hr he = omega arith
   more (_ ∷ rest) o o' m m' aborts l l' r r' e e' ho hm hl hr he =
       let h = more rest o o' m m' aborts m m' false false true true ho hm hm (same_room false) (same_end true) in omega (arith, h)

@@ -19,6 +19,8 @@ pub record Work : Type 0 where
   pub most : ℕ
   -- whether the owner has ended that the call waits for
   pub ended : Bool
+  -- at most so many keys the lists may still give, together, that the plan has to make
+  pub keys : ℕ
 
 -- by how much an operation that writes may raise what a later one may need: it may have added a key
 abbrev pub growth : ℕ
@@ -132,21 +134,34 @@ module _ {K V E : Type 0} where
       1 + steps_of owed most aborts false most true rest
   steps_of owed most aborts room left ended (plan.Invalidate_all ∷ rest) =
       1 + steps_of owed most aborts false most true rest
+  steps_of owed most aborts room left ended (plan.List_keys part ∷ rest) =
+      left + 1 + steps_of owed most aborts false most true rest
+  steps_of owed most aborts room left ended (plan.Find key ∷ rest) =
+      left + 2 + steps_of owed most aborts false most true rest
+  steps_of owed most aborts room left ended (plan.Scan there found ∷ rest) =
+      1 + steps_of owed most aborts false most true rest
   steps_of owed most aborts room left ended (plan.Reply answer ∷ rest) = 1
 
-  -- at most so many steps the call makes by itself
-  abbrev pub ahead : Work → Call K V E → ℕ
-  ahead work c =
+  -- at most so many steps the call makes by itself, but for keys that are yet to be listed
+  abbrev pub ahead_of_plan : Work → Call K V E → ℕ
+  ahead_of_plan work c =
       work.logged + steps_of work.owed work.most c.aborts
       (nat_lt work.logged work.size) work.left work.ended c.plan
 
-  -- the work that is before the call of this number in the world
-  abbrev pub work_in : ℕ → World K V E → Work
-  work_in n w = record {
+  -- at most so many steps it makes by itself: each key that is yet to be listed will be looked up,
+  -- and the record judged that is found
+  abbrev pub ahead : Work → Call K V E → ℕ
+  ahead work c = work.keys * (work.most + 2) + ahead_of_plan work c
+
+  -- the work that is before the call of this number in the world, where the lists that it has still
+  -- to make may give so many keys
+  abbrev pub work_in : ℕ → ℕ → World K V E → Work
+  work_in n keys w = record {
     owed = length w.desk.owed;
     logged = length w.desk.log;
     size = w.desk.size;
     left = most_undecided w.table - times_of w.stay n;
     most = most_undecided w.table;
     ended = is_some (settlement_for w.desk n);
+    keys = keys;
   }

@@ -1,12 +1,14 @@
 -- Each step that leaves a call going lowers how many it may still make.
-use Rattle.std.specs.Prelude.{◌≡◌, ℕ, ◌+◌, ◌<◌, ◌≤◌, Bool, length, is_some}
+use Rattle.std.specs.Prelude.{◌≡◌, ℕ, ◌+◌, ◌<◌, ◌≤◌, Bool, false, length, is_some}
 use Rattle.moka_hist.specs.State.{Call, World}
 use Rattle.moka_hist.specs.Loading.{retries}
+use Rattle.moka_hist.specs.Plan.{walks}
 use Rattle.moka_hist.specs.Step.{Access, Gets, May, access_of, next_of, going_as}
 use Rattle.moka_hist.specs.Visits.{settlement_for}
 use Rattle.moka_hist.specs.Step as step
 use Rattle.moka_hist.specs.declared.tables.TableOp.TheVariants as op
 use Rattle.moka_hist.specs.declared.tables.TableTurn.TheVariants as table
+use Rattle.moka_hist.specs.declared.tables.TableAnswer.TheVariants as answer
 use Rattle.moka_hist.specs.declared.accesses.Got.{Got}
 use Rattle.moka_hist.specs.declared.accesses.Got.TheVariants as got
 use Rattle.moka_hist.specs.declared.accesses.Turn.TheVariants as turns
@@ -28,19 +30,27 @@ module _ {K V E : Type 0} where
   raised (step.On_table (op.InsertIfAbsent key stored)) (got.Table (table.Decided answer)) = growth
   raised _ _ = 0
 
-  -- what an access that gave this may make of how long operations stay undecided
+  -- how many keys a list gave
+  abbrev pub keys_in : Got K V E → ℕ
+  keys_in (got.Table (table.Decided (answer.Keys keys))) = length keys
+  keys_in _ = 0
+
+  -- what an access that gave this may make of how long operations stay undecided, and of how many
+  -- keys lists have still to give
   pub record Shortens (old new : Work) (access : Access K V E) (given : Got K V E) : Type 0 where
     pub within : new.left ≤ new.most
     pub raises : new.most ≤ old.most + raised access given
     pub going : given ≡ got.Table table.Going → new.left < old.left
+    pub keys : new.keys + keys_in given ≤ old.keys
 
 -- A step that leaves the call going, in a world that has what the step needs, leaves it live, and
--- lowers how many steps it may still make, where the log has room for a write at all.
+-- lowers how many steps it may still make, where the log has room for a write at all. Only a walk
+-- lists keys.
 abbrev pub GoingFalls : (K V E : Type 0) → (K → K → Bool) → Type 0
 GoingFalls K V E eq =
     (n : ℕ) (c : Call K V E) (w new : World K V E) (given : Got K V E) (before after : Work) →
-    c.aborts < retries → 0 < before.size → May w (access_of n c) →
-    Gets eq n w (access_of n c) given new → Counts n w before → Counts n new after →
-    Shortens before after (access_of n c) given →
+    c.aborts < retries → 0 < before.size → (walks c.plan ≡ false → before.keys ≡ 0) →
+    May w (access_of n c) → Gets eq n w (access_of n c) given new → Counts n w before →
+    Counts n new after → Shortens before after (access_of n c) given →
     (next_of n c given).turn ≡ turns.Going →
     (d : Call K V E) × (next_of n c given ≡ going_as d) × (ahead after d < ahead before c)

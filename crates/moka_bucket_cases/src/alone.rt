@@ -29,6 +29,7 @@ fn value_in(answer: &TableAnswer<u64, u64>) -> Option<u64> {
     match answer {
         TableAnswer::None => None,
         TableAnswer::Some { stored, .. } => Some(stored.value),
+        TableAnswer::Keys(_) => None,
     }
 }
 

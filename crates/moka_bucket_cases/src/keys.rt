@@ -5,9 +5,8 @@ ghost use Rattle.moka_calls.specs.Standing.{IsGoing};
 ghost use Rattle.moka_buckets.specs.Views.{fits_in, fits_keys_in};
 
 use crate::hashers::BuildZero;
-use moka_buckets::{BucketCall, BucketTable, KeysCall};
-use moka_hist::{Stored, TableAnswer, TableOp, TableTurn};
-use moka_table::Table;
+use moka_buckets::{BucketCall, BucketTable, KeyOp, KeysCall};
+use moka_hist::{Stored, TableAnswer, TableTurn};
 use moka_values::Exact;
 use std::alloc::{AllocError, Global};
 use std::hash::{BuildHasher, Hash};
@@ -31,7 +30,7 @@ pub(crate) fn finish<K: Eq + Hash + Exact, V: Exact, S: BuildHasher + Drop>(
         table.new call.now }
 {
     for _ in 0..10_000u32 {
-        match table.step(other)? {
+        match table.step_key(other)? {
             TableTurn::Going => {}
             TableTurn::Decided(answer) => return Ok(Some(answer)),
         }
@@ -43,14 +42,14 @@ pub(crate) fn finish<K: Eq + Hash + Exact, V: Exact, S: BuildHasher + Drop>(
 pub(crate) fn run<K: Eq + Hash + Exact, V: Exact, S: BuildHasher + Drop>(
     table: &mut BucketTable<K, V, S>,
     call: &KeysCall,
-    operation: TableOp<K, V>,
+    operation: KeyOp<K, V>,
 ) -> Result<(), AllocError>
     requires fits { fits_keys_in S.BuildHasher S.Hasher.Hasher K.eq K.hash_input
         table.old call.now }
     ensures fits { fits_keys_in S.BuildHasher S.Hasher.Hasher K.eq K.hash_input
         table.new call.now }
 {
-    let mut other = table.begin(operation);
+    let mut other = table.begin_key(operation);
     let answer = finish(table, call, &mut other);
     drop(other);
     match answer? {
@@ -59,8 +58,8 @@ pub(crate) fn run<K: Eq + Hash + Exact, V: Exact, S: BuildHasher + Drop>(
     }
 }
 
-pub(crate) fn insert(key: u64) -> TableOp<u64, u64> {
-    TableOp::InsertOrModify {
+pub(crate) fn insert(key: u64) -> KeyOp<u64, u64> {
+    KeyOp::InsertOrModify {
         key,
         stored: Stored {
             value: key,
@@ -130,7 +129,7 @@ fn listed<K: Eq + Hash + Exact, V: Exact, S: BuildHasher + Drop>(
 fn listed_after<K: Eq + Hash + Exact, V: Exact, S: BuildHasher + Drop>(
     table: &mut BucketTable<K, V, S>,
     call: &mut KeysCall,
-    operation: TableOp<K, V>,
+    operation: KeyOp<K, V>,
 ) -> Result<Listed<K>, AllocError>
     requires fits { fits_keys_in S.BuildHasher S.Hasher.Hasher K.eq K.hash_input
         table.old call.old }
@@ -203,7 +202,7 @@ fn store_all<K: Eq + Hash + Exact, S: BuildHasher + Drop>(
         run(
             table,
             call,
-            TableOp::InsertOrModify {
+            KeyOp::InsertOrModify {
                 key: key.clone()?,
                 stored,
             },

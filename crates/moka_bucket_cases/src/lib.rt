@@ -10,6 +10,8 @@ mod keys;
 #[cfg(test)]
 mod listing;
 #[cfg(test)]
+mod lists;
+#[cfg(test)]
 mod orders;
 #[cfg(test)]
 mod pace;

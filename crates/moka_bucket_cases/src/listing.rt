@@ -6,9 +6,8 @@ ghost use Rattle.moka_buckets.specs.Views.{fits_in, fits_keys_in};
 
 use crate::hashers::BuildZero;
 use crate::keys::{Zero, finish, insert, list, run};
-use moka_buckets::{BucketCall, BucketTable, KeysCall};
-use moka_hist::{TableAnswer, TableOp, TableTurn};
-use moka_table::Table;
+use moka_buckets::{BucketCall, BucketTable, KeyOp, KeysCall};
+use moka_hist::{TableAnswer, TableTurn};
 use moka_values::Exact;
 use std::alloc::{AllocError, Global};
 use std::hash::{BuildHasher, Hash};
@@ -54,7 +53,7 @@ fn play<K: Eq + Hash + Exact, V: Exact, S: BuildHasher + Drop>(
                 };
             }
         } else {
-            match table.step(other)? {
+            match table.step_key(other)? {
                 TableTurn::Going => {}
                 TableTurn::Decided(answer) => {
                     return match list(table, call, 1_000)? {
@@ -74,11 +73,11 @@ fn play<K: Eq + Hash + Exact, V: Exact, S: BuildHasher + Drop>(
 
 // An operation beside which keys are listed: on a table that has key 0 it inserts key 1, or removes
 // key 0.
-fn operation(inserts: bool) -> TableOp<u64, u64> {
+fn operation(inserts: bool) -> KeyOp<u64, u64> {
     if inserts {
         insert(1)
     } else {
-        TableOp::RemoveIf {
+        KeyOp::RemoveIf {
             key: 0,
             stamp: None,
         }
@@ -90,8 +89,8 @@ fn operation(inserts: bool) -> TableOp<u64, u64> {
 fn play_after<K: Eq + Hash + Exact, V: Exact, S: BuildHasher + Drop>(
     table: &mut BucketTable<K, V, S>,
     call: &mut KeysCall,
-    first: TableOp<K, V>,
-    second: TableOp<K, V>,
+    first: KeyOp<K, V>,
+    second: KeyOp<K, V>,
     order: u64,
 ) -> Result<(Option<Played<K, V>>, Option<Vec<K>>), AllocError>
     requires fits { fits_keys_in S.BuildHasher S.Hasher.Hasher K.eq K.hash_input
@@ -99,7 +98,7 @@ fn play_after<K: Eq + Hash + Exact, V: Exact, S: BuildHasher + Drop>(
     requires going { IsGoing call.old.table }
 {
     run(table, call, first)?;
-    let mut other = table.begin(second);
+    let mut other = table.begin_key(second);
     let played = play(table, call, &mut other, order);
     drop(other);
     Ok((played?, table.keys(call)?))
@@ -112,7 +111,11 @@ fn play_new(alloc: Global, inserts: bool, order: u64) -> Result<Option<u64>, All
     let mut call = table.begin_keys(0);
     let ended = play_after(&mut table, &mut call, insert(0), operation(inserts), order);
     drop(call);
-    let (Some(played), Some(keys)) = ended? else {
+    let (played, keys) = ended?;
+    let Some(played) = played else {
+        return Ok(None);
+    };
+    let Some(keys) = keys else {
         return Ok(None);
     };
     let right = is_answered(&played.answer, inserts)
@@ -125,6 +128,7 @@ fn is_answered(answer: &TableAnswer<u64, u64>, inserts: bool) -> bool {
     match answer {
         TableAnswer::None => inserts,
         TableAnswer::Some { key, .. } => !inserts && *key == 0,
+        TableAnswer::Keys(_) => false,
     }
 }
 

@@ -42,6 +42,7 @@ fn stamp_in(turn: &TableTurn<u32, u32>) -> Option<u64> {
     match turn {
         TableTurn::Decided(TableAnswer::Some { stored, .. }) => Some(stored.stamp),
         TableTurn::Decided(TableAnswer::None) => None,
+        TableTurn::Decided(TableAnswer::Keys(_)) => None,
         TableTurn::Going => None,
     }
 }

@@ -1,12 +1,13 @@
 //! A table whose operations stay undecided for a while: what the contract of `Table` asks of one
 //! that others change meanwhile.
-ghost use Rattle.std.specs.Prelude.{◌≡◌, ◌≢◌, ◌<◌, ◌≤◌, ◌+◌, max, OnErr, IfOk, Some, None};
+ghost use Rattle.std.specs.Prelude.{◌≡◌, ◌≢◌, ℕ, ◌<◌, ◌≤◌, ◌+◌, max, refl, List, IsSome, OnErr, IfOk, Some, None};
 ghost use Rattle.std.specs.Bool.{OnTrue};
 ghost use Rattle.std.specs.HashMap.{hash_map_len};
 ghost use Rattle.std.proofs.Common.{arith};
 ghost use Rattle.moka_hist.specs.declared.tables.TableOp.{TableOp};
-ghost use Rattle.moka_table.specs.Map.{SameMap, Moves, ListsPairs, most_steps};
-ghost use Rattle.moka_table.specs.Plain.{map_of, peak_of, plain_first};
+ghost use Rattle.moka_hist.specs.declared.tables.TableAnswer.TheVariants as found;
+ghost use Rattle.moka_table.specs.Map.{GoesOnListing, SameMap, Moves, ListsPairs, most_steps};
+ghost use Rattle.moka_table.specs.Plain.{AllCovered, IsOfPart, IsPlainList, NoneListed, map_of, peak_of, plain_first, plain_part, plain_parts};
 
 #[cfg(test)]
 use moka_hist::Stored;
@@ -45,20 +46,37 @@ impl<K: Eq + Hash + Exact, V: Exact> Table<K, V> for Slow<K, V> {
 
     ghost left = { λ t c. t.pieces + 1 };
 
+    ghost divided = { λ t. plain_parts };
+
+    ghost part_of = { λ t. plain_part };
+
+    ghost listed = { λ t c. NoneListed };
+
+    ghost covers = { λ t c. AllCovered };
+
     ghost peak_holds = { λ t. Prim.omega arith };
 
     ghost first_holds = { λ t. Prim.omega arith };
 
-    fn segments(&self) -> usize
-        ensures { 0 < result }
+    ghost parts_hold = { λ t. (Prim.omega arith, Prim.omega arith) };
+
+    ghost part_holds = { λ t key. Prim.omega arith };
+
+    ghost alike = { λ t a b same. refl };
+
+    fn parts(&self) -> usize
+        ensures { result ≡ plain_parts }
     {
-        self.plain.segments()
+        self.plain.parts()
     }
 
     fn begin(&self, operation: TableOp<K, V>) -> PlainCall<K, V>
         ensures operation { result.operation ≡ Some operation }
         ensures fits { result.operation ≢ None }
         ensures left { self.now.pieces + 1 ≤ most_steps plain_first (peak_of self.now.plain) }
+        ensures none { (part : ℕ) → operation ≡ TableOp.Keys part → (q : K) → NoneListed q → ⊥ }
+        ensures all { (part : ℕ) → operation ≡ TableOp.Keys part
+            → (q : K) → IsOfPart part q → AllCovered q }
     {
         self.plain.begin(operation)
     }
@@ -71,6 +89,15 @@ impl<K: Eq + Hash + Exact, V: Exact> Table<K, V> for Slow<K, V> {
         ensures peak { peak_of self.new.plain
             ≡ max (peak_of self.old.plain) (hash_map_len self.new.plain.pairs) }
         ensures first { plain_first ≡ plain_first }
+        ensures parts { (plain_parts ≡ plain_parts) × ((q : K) → plain_part q ≡ plain_part q) }
+        ensures lists { IfOk result (λ turn. (part : ℕ)
+            → call.old.operation ≡ Some (TableOp.Keys part) → turn ≡ TableTurn.Going
+            → GoesOnListing (map_of K.eq self.old.plain) (IsOfPart part) NoneListed NoneListed
+            AllCovered AllCovered) }
+        ensures gives { IfOk result (λ turn. (part : ℕ) → (keys : List K)
+            → call.old.operation ≡ Some (TableOp.Keys part)
+            → turn ≡ TableTurn.Decided (found.Keys keys)
+            → IsPlainList K.eq self.old.plain part keys) }
         ensures undecided { IfOk result (λ turn. turn ≡ TableTurn.Going
             → (call.new.operation ≡ call.old.operation) × (call.new.operation ≢ None)) }
         ensures nears { IfOk result (λ turn. turn ≡ TableTurn.Going
@@ -79,6 +106,12 @@ impl<K: Eq + Hash + Exact, V: Exact> Table<K, V> for Slow<K, V> {
             → other.operation ≢ None }
         ensures others_left { (other : PlainCall K V) → other.operation ≢ None
             → self.new.pieces + 1 ≤ most_steps plain_first (peak_of self.new.plain) }
+        ensures others_listed { (other : PlainCall K V) → other.operation ≢ None
+            → (q : K) → NoneListed q → NoneListed q }
+        ensures others_cover { (other : PlainCall K V) (part : ℕ) → other.operation ≢ None
+            → other.operation ≡ Some (TableOp.Keys part) → (q : K) → IsOfPart part q
+            → IsSome (map_of K.eq self.old.plain q) → IsSome (map_of K.eq self.new.plain q)
+            → AllCovered q → AllCovered q }
         ensures err_map { OnErr result
             (SameMap (map_of K.eq self.old.plain) (map_of K.eq self.new.plain)) }
         ensures err_count { OnErr result
@@ -86,6 +119,8 @@ impl<K: Eq + Hash + Exact, V: Exact> Table<K, V> for Slow<K, V> {
         ensures err_call { OnErr result ((call.new.operation ≡ call.old.operation)
             × (call.new.operation ≢ None)
             × (self.new.pieces + 1 ≡ self.old.pieces + 1)) }
+        ensures err_listed { OnErr result ((q : K) → (NoneListed q → NoneListed q)
+            × (AllCovered q → AllCovered q)) }
         ensures err_others { OnErr result ((other : PlainCall K V) → other.operation ≢ None
             → self.new.pieces + 1 ≤ self.old.pieces + 1) }
     {

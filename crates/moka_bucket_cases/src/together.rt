@@ -237,6 +237,7 @@ pub(crate) fn answers(
             }
             Ok(is_pair(answer, *key, out))
         }
+        TableOp::Keys { .. } => Ok(false),
     }
 }
 
@@ -254,6 +255,7 @@ fn is_pair(answer: &TableAnswer<u64, u64>, key: u64, pair: Option<(u64, u64)>) -
         TableAnswer::Some { key: of, stored } => {
             *of == key && pair == Some((stored.value, stored.stamp))
         }
+        TableAnswer::Keys(_) => false,
     }
 }
 

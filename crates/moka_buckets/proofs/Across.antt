@@ -1,5 +1,5 @@
 -- What a step of a call that lists keys does to the whole table.
-use Rattle.std.proofs.Common.{◌≡◌, ◌≢◌, ◌⊎◌, ◌↔◌, ℕ, ◌<◌, Bool, true, false, List, length, Option, Some, None, IsSome, Result, Ok, Err, IfOk, OnErr, inl, inr, refl, sym, ap, subst, ◌∙◌, arith, set}
+use Rattle.std.proofs.Common.{◌≡◌, ◌≢◌, ◌⊎◌, ◌↔◌, ℕ, ◌<◌, Bool, true, false, List, [], length, Option, Some, None, IsSome, Result, Ok, Err, IfOk, OnErr, inl, inr, refl, sym, ap, subst, ◌∙◌, arith, set}
 use Rattle.std.proofs.lemmas.Bool.{cases_eq, false≢true}
 use Rattle.std.proofs.lemmas.Option.{slice_get_within}
 use Rattle.std.proofs.Math.ListN.{length-set}
@@ -17,9 +17,9 @@ use Rattle.moka_buckets.specs.declared.keys_call.KeysCall.{KeysCall}
 use Rattle.moka_buckets.specs.Nodes.{same_by, key_in, Agrees}
 use Rattle.moka_buckets.specs.Tables.{map_of, left_in, IsWell}
 use Rattle.moka_buckets.specs.Steps.{FitsCall}
-use Rattle.moka_buckets.specs.Walks.{is_ended, Falls, Covers, Lead, WalksOn}
+use Rattle.moka_buckets.specs.Walks.{carried, is_ended, listed_by, node_next, word_next, Falls, Covers, Lead, WalksOn}
 use Rattle.moka_buckets.specs.Parts.{memory_at, keys_at, peak_at, map_at, map_over, segment_of, IsPart, AreParts, FitsParts}
-use Rattle.moka_buckets.specs.Keys.{Leads, FitsKeys, FitsThere, ListsIt, CoversIt, WalksOver, left_keys}
+use Rattle.moka_buckets.specs.Keys.{Leads, FitsKeys, FitsThere, ListsIt, CoversIt, WalksOver, left_keys, nodes_of, word_over}
 use Rattle.moka_buckets.proofs.Placed.{get-set-same, get-set-other}
 use Rattle.moka_buckets.proofs.Spread.{keys_set}
 use Rattle.moka_buckets.proofs.Led.{has_key, later_same, runs_last, walks_last, covers_last}
@@ -253,6 +253,24 @@ module _ {K V : Type 0} (eq : K → K → Bool) (laws : IsEquivalence eq) (hash 
                 (l.covers key here (subst (λ y. Covers eq (memory_at y) y.nodes.items key before.table) (one_item (sym at ∙ there)) was)),
           )
 
+  all_nodes : (j : ℕ) → nodes_of (set parts i new) j ≡ nodes_of parts j
+  all_nodes j = elim (cases_eq j i) [
+    | inl d ↦ ap (λ o. option_map_or (λ x. x.nodes.items) o []) (ap (slice_get (set parts i new)) d ∙ now)
+        ∙ (nodes ∙ sym (ap (λ o. option_map_or (λ x. x.nodes.items) o []) (ap (slice_get parts) d ∙ there)))
+    | inr d ↦ ap (λ o. option_map_or (λ x. x.nodes.items) o []) (get-set-other parts i j new d)
+  ]
+
+  word_here : word_over parts before ≡ word_next (memory_at p) before.table
+  word_here = ap (λ o. option_map_or (λ x. word_next (memory_at x) before.table) o None) there
+
+  adds : IfOk gives (λ done. listed_by after.table ≡ carried (listed_by before.table) (word_over parts before) (node_next (word_over parts before)))
+  adds = by gives leads.lead
+    where
+      by : (r : Result Bool AllocError) → IfOk r (λ done. Lead eq hash p.nodes.items first (peak_at p) (memory_at p) before.table (memory_at new) after.table) →
+          IfOk r (λ done. listed_by after.table ≡ carried (listed_by before.table) (word_over parts before) (node_next (word_over parts before)))
+      by (Err x) l = tt
+      by (Ok done) l = l.adds ∙ ap (λ w. carried (listed_by before.table) w (node_next w)) (sym word_here)
+
   pub walks_over : (same : OnErr gives (after ≡ before)) → WalksOver eq hash first parts most len before gives (set parts i new) after
   walks_over same = record {
     segment = segment;
@@ -267,5 +285,7 @@ module _ {K V : Type 0} (eq : K → K → Bool) (laws : IsEquivalence eq) (hash 
     covers = covers;
     others = others;
     keys = record { fits = others_keys; lists = others_list; covers = others_cover };
+    adds = adds;
+    nodes = all_nodes;
     err = err same;
   }

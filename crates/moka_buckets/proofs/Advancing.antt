@@ -1,8 +1,9 @@
 -- One step of an operation, by the call that makes it.
 use Rattle.std.proofs.Common.{◌≡◌, ℕ, Bool, true, List, Option, Some, IsSome, sym, ap, subst, ◌∙◌}
 use Rattle.std.specs.Cmp.{IsEquivalence}
-use Rattle.moka_hist.specs.Tables.{answer_of, key_of}
-use Rattle.moka_hist.specs.declared.tables.TableOp.{TableOp}
+use Rattle.moka_hist.specs.Tables.{answer_of}
+use Rattle.moka_buckets.specs.KeyOps.{key_of}
+use Rattle.moka_buckets.specs.declared.key_op.KeyOp.{KeyOp}
 use Rattle.moka_hist.specs.declared.tables.TableAnswer.{TableAnswer}
 use Rattle.moka_words.specs.declared.accesses.Access.{Access}
 use Rattle.moka_words.specs.declared.accesses.Seen.{Seen}
@@ -24,7 +25,7 @@ use Rattle.moka_buckets.proofs.Turns.{sees_of, turned}
 use Rattle.moka_buckets.proofs.Possible.{are_short, can_make}
 
 module _ {K V : Type 0} (eq : K → K → Bool) (laws : IsEquivalence eq) (hash : K → ℕ) (respects : (x y : K) → eq x y ≡ true → hash x ≡ hash y)
-    (nodes : List (Node K V)) (first peak : ℕ) (o : TableOp K V) (stored : Option ℕ) (s : Arrays)
+    (nodes : List (Node K V)) (first peak : ℕ) (o : KeyOp K V) (stored : Option ℕ) (s : Arrays)
     (well : IsWell eq hash (memory_of s) nodes first peak) where
   pub can_access : (step : Step) (a : Access) → RunsOn eq hash (memory_of s) nodes o stored step → Wants step a → CanMake (memory_of s) nodes a
   can_access (Decided e) a runs wants = absurd runs

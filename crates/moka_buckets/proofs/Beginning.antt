@@ -1,8 +1,8 @@
 -- An operation that begins fits the table, and has few steps left.
 use Rattle.std.proofs.Common.{◌≡◌, ℕ, ◌^◌, ◌<◌, Bool, List, [], ◌∷◌, length, Option, None, Some, zero, suc, sym, subst, refl, ◌∙◌, arith}
 use Rattle.std.specs.List.{slice_get}
-use Rattle.moka_hist.specs.Tables.{key_of}
-use Rattle.moka_hist.specs.declared.tables.TableOp.{TableOp}
+use Rattle.moka_buckets.specs.KeyOps.{key_of}
+use Rattle.moka_buckets.specs.declared.key_op.KeyOp.{KeyOp}
 use Rattle.moka_words.specs.Effect.{Memory}
 use Rattle.moka_growth.specs.declared.kinds.CallKind.{CallKind}
 use Rattle.moka_growth.specs.Calls.{Step, Going, call_from}
@@ -22,7 +22,7 @@ no_node : {n : ℕ} → None ≡ Some n → ⊥
 no_node e = cc
 
 module _ {K V : Type 0} (eq : K → K → Bool) (hash : K → ℕ) where
-  begun_runs : (m : Memory) (nodes : List (Node K V)) (o : TableOp K V) (h : ℕ) (k : CallKind) (table : Step) (node : Option ℕ) → h ≡ hash (key_of o) → k ≡ kind_of o →
+  begun_runs : (m : Memory) (nodes : List (Node K V)) (o : KeyOp K V) (h : ℕ) (k : CallKind) (table : Step) (node : Option ℕ) → h ≡ hash (key_of o) → k ≡ kind_of o →
       table ≡ Going (call_from k h) → node ≡ None → RunsOn eq hash m nodes o node table
   begun_runs m nodes o h k table node hashed kind is none = subst (λ s. RunsOn eq hash m nodes o node s) (sym is) (record {
     kind = kind;

@@ -2,14 +2,15 @@
 use Rattle.std.proofs.Common.{◌≡◌, ℕ, ◌+◌, ◌-◌, ◌==◌, Bool, true, false, cond, List, Option, Some, None, IsSome, is_some, refl, sym, ap, ◌∙◌}
 use Rattle.std.proofs.lemmas.Bool.{false≢true}
 use Rattle.moka_hist.specs.Finite.{put_key}
-use Rattle.moka_hist.specs.Tables.{key_of, stored_with, taken_by}
+use Rattle.moka_hist.specs.Tables.{taken_by}
 use Rattle.moka_hist.specs.declared.records.Stored.{Stored}
-use Rattle.moka_hist.specs.declared.tables.TableOp.{TableOp}
-use Rattle.moka_hist.specs.declared.tables.TableOp.TheVariants as op
+use Rattle.moka_buckets.specs.KeyOps.{key_of, keys_after, pair_answered, stored_with}
+use Rattle.moka_buckets.specs.declared.key_op.KeyOp.{KeyOp}
+use Rattle.moka_buckets.specs.declared.key_op.KeyOp.TheVariants as op
 use Rattle.moka_words.specs.declared.accesses.Choice.TheVariants as choice
 use Rattle.moka_growth.specs.Calls.{Ending}
 use Rattle.moka_growth.specs.Calls as call
-use Rattle.moka_table.specs.Map.{Pairs, pair_answered, keys_after}
+use Rattle.moka_table.specs.Map.{Pairs}
 use Rattle.moka_buckets.specs.declared.node.Node.{Node}
 use Rattle.moka_buckets.specs.Nodes.{pair_at}
 use Rattle.moka_buckets.specs.Tables.{choose, kind_of, is_look, put_of, stored_by}
@@ -76,14 +77,14 @@ module _ {K V : Type 0} where
   none_taken (Some pair) e = absurd (false≢true (sym e))
 
   -- the pair that is stored is under the operation's key
-  pub stored_pair : (o : TableOp K V) → IsSome (stored_by o) → (stored : Stored V) × (stored_by o ≡ Some (key_of o, stored))
+  pub stored_pair : (o : KeyOp K V) → IsSome (stored_by o) → (stored : Stored V) × (stored_by o ≡ Some (key_of o, stored))
   stored_pair (op.Get key) has = absurd (false≢true has)
   stored_pair (op.InsertOrModify key stored) has = (stored, refl)
   stored_pair (op.InsertIfAbsent key stored) has = (stored, refl)
   stored_pair (op.RemoveIf key stamp) has = absurd (false≢true has)
 
 -- an operation that ends by a look puts nothing
-pub look_puts : {K V : Type 0} (o : TableOp K V) (found : Option ℕ) (e : Ending) → EndsBy (kind_of o) found e → (present : Option ℕ) →
+pub look_puts : {K V : Type 0} (o : KeyOp K V) (found : Option ℕ) (e : Ending) → EndsBy (kind_of o) found e → (present : Option ℕ) →
     puts_at o present ≡ true → ⊥
 look_puts (op.Get key) found e ends present puts = false≢true puts
 look_puts (op.InsertOrModify key stored) found e ends present puts = absurd ends
@@ -92,7 +93,7 @@ look_puts (op.RemoveIf key stamp) found e ends present puts = false≢true puts
 
 module _ {K V : Type 0} (nodes : List (Node K V)) where
   -- how an operation ends that has not changed anything is its choice
-  pub look_of : (o : TableOp K V) (made found : Option ℕ) (e : Ending) → EndsBy (kind_of o) found e →
+  pub look_of : (o : KeyOp K V) (made found : Option ℕ) (e : Ending) → EndsBy (kind_of o) found e →
       (f : Option ℕ) × (e ≡ call.Kept f) × (choose nodes o made f ≡ choice.Keep) × (cond (is_look o) found None ≡ cond (is_look o) f None)
   look_of (op.Get key) made found e ends = (found, ends, refl, refl)
   look_of (op.InsertOrModify key stored) made found e ends = absurd ends
@@ -100,7 +101,7 @@ module _ {K V : Type 0} (nodes : List (Node K V)) where
   look_of (op.RemoveIf key stamp) made found e ends = (None, ends, refl, refl)
 
   -- the node that is put is the one that was made
-  pub put_named : (o : TableOp K V) (made found : Option ℕ) (n : ℕ) → choose nodes o made found ≡ choice.Put n → made ≡ Some n
+  pub put_named : (o : KeyOp K V) (made found : Option ℕ) (n : ℕ) → choose nodes o made found ≡ choice.Put n → made ≡ Some n
   put_named (op.Get key) made found n e = absurd (keep_put e)
   put_named (op.InsertOrModify key stored) made found n e = puts_node made n e
   put_named (op.InsertIfAbsent key stored) made None n e = puts_node made n e
@@ -108,7 +109,7 @@ module _ {K V : Type 0} (nodes : List (Node K V)) where
   put_named (op.RemoveIf key stamp) made found n e = absurd (never_put (is_some (taken_by stamp (pair_at nodes found))) n e)
 
   -- a node is taken out that is present
-  pub out_present : (o : TableOp K V) (made found : Option ℕ) → choose nodes o made found ≡ choice.Remove → IsSome found
+  pub out_present : (o : KeyOp K V) (made found : Option ℕ) → choose nodes o made found ≡ choice.Remove → IsSome found
   out_present (op.Get key) made found e = absurd (keep_out e)
   out_present (op.InsertOrModify key stored) made found e = absurd (puts_nothing made e)
   out_present (op.InsertIfAbsent key stored) made None e = absurd (puts_nothing made e)
@@ -118,7 +119,7 @@ module _ {K V : Type 0} (nodes : List (Node K V)) where
 
   module _ (eq : K → K → Bool) (f : Pairs K V) (keys : ℕ) where
     -- an operation that keeps what is there leaves the map, and answers the pair if it is a look
-    pub left_by : (o : TableOp K V) (made found : Option ℕ) → (puts_at o found ≡ true → IsSome made) → choose nodes o made found ≡ choice.Keep →
+    pub left_by : (o : KeyOp K V) (made found : Option ℕ) → (puts_at o found ≡ true → IsSome made) → choose nodes o made found ≡ choice.Keep →
         f (key_of o) ≡ pair_at nodes found → (IsSome found → IsSome (pair_at nodes found)) →
         (pair_answered f o ≡ pair_at nodes (cond (is_look o) found None)) × ((q : K) → stored_with eq f o q ≡ f q) × (keys_after f keys o ≡ keys)
     left_by (op.Get key) made found named e here has = (here, λ q. refl, refl)
@@ -138,7 +139,7 @@ module _ {K V : Type 0} (nodes : List (Node K V)) where
         )
 
     -- an operation that puts a node answers the pair in whose place that one is
-    pub put_by_choice : (o : TableOp K V) (made found : Option ℕ) (n : ℕ) (stored : Stored V) → choose nodes o made found ≡ choice.Put n →
+    pub put_by_choice : (o : KeyOp K V) (made found : Option ℕ) (n : ℕ) (stored : Stored V) → choose nodes o made found ≡ choice.Put n →
         f (key_of o) ≡ pair_at nodes found → stored_by o ≡ Some (key_of o, stored) →
         (pair_answered f o ≡ pair_at nodes found) × ((q : K) → stored_with eq f o q ≡ put_key eq f (key_of o) (Some (key_of o, stored)) q)
         × (keys_after f keys o ≡ cond (is_some (f (key_of o))) keys (keys + 1))
@@ -153,7 +154,7 @@ module _ {K V : Type 0} (nodes : List (Node K V)) where
     put_by_choice (op.RemoveIf key stamp) made found n stored e here is = absurd (never_put (is_some (taken_by stamp (pair_at nodes found))) n e)
 
     -- an operation that takes a node out answers its pair
-    pub out_by_choice : (o : TableOp K V) (made found : Option ℕ) → choose nodes o made found ≡ choice.Remove → f (key_of o) ≡ pair_at nodes found →
+    pub out_by_choice : (o : KeyOp K V) (made found : Option ℕ) → choose nodes o made found ≡ choice.Remove → f (key_of o) ≡ pair_at nodes found →
         (pair_answered f o ≡ pair_at nodes found) × ((q : K) → stored_with eq f o q ≡ put_key eq f (key_of o) None q) × (keys_after f keys o ≡ keys - 1)
     out_by_choice (op.Get key) made found e here = absurd (keep_out e)
     out_by_choice (op.InsertOrModify key stored) made found e here = absurd (puts_nothing made e)

@@ -1,8 +1,8 @@
 -- Where the calls of a table come, and what they have found as they end.
 use Rattle.std.proofs.Common.{◌≡◌, ℕ, Bool, true, false, cond, List, [], ◌++◌, length, Option, Some, None, suc, refl, sym, subst, ◌∙◌, ltb, eqb, if◌then◌else◌}
 use Rattle.std.specs.Option.{option_eq, option_map, option_map_or, option_to_list}
-use Rattle.moka_hist.specs.declared.tables.TableOp.{TableOp}
-use Rattle.moka_hist.specs.declared.tables.TableOp.TheVariants as op
+use Rattle.moka_buckets.specs.declared.key_op.KeyOp.{KeyOp}
+use Rattle.moka_buckets.specs.declared.key_op.KeyOp.TheVariants as op
 use Rattle.moka_words.specs.declared.words.Word.{Word}
 use Rattle.moka_words.specs.declared.words.Word.TheVariants.{Unset, Empty, Live, Tomb, SealedEmpty, SealedLive, SealedTomb}
 use Rattle.moka_words.specs.declared.accesses.Seen.{Seen}
@@ -32,7 +32,7 @@ abbrev pub IsKeyed : CallKind → Type 0
 IsKeyed kind.Keys = ⊥
 IsKeyed k = Unit {0}
 
-pub is_keyed : {K V : Type 0} (o : TableOp K V) → IsKeyed (kind_of o)
+pub is_keyed : {K V : Type 0} (o : KeyOp K V) → IsKeyed (kind_of o)
 is_keyed (op.Get key) = tt
 is_keyed (op.InsertOrModify key stored) = tt
 is_keyed (op.InsertIfAbsent key stored) = tt
@@ -171,7 +171,7 @@ module _ (hash : ℕ → ℕ) (own : ℕ → Bool) (old new : Memory) (h : ℕ) 
   leads p s rests walks e = absurd e
 
 -- the same of any call of an operation
-pub course : {K V : Type 0} (o : TableOp K V) (hash : ℕ → ℕ) (own : ℕ → Bool) (old new : Memory) (c : Call) (s : Seen) → c.kind ≡ kind_of o → Rests c.point →
+pub course : {K V : Type 0} (o : KeyOp K V) (hash : ℕ → ℕ) (own : ℕ → Bool) (old new : Memory) (c : Call) (s : Seen) → c.kind ≡ kind_of o → Rests c.point →
     IsNoWalk c.point → Effect hash own (access_of c) s old new →
     Leads (next_of c s) (Comes (kind_of o) c.hash (found_loaded own old (access_of c)) c.point) (Ended (kind_of o) (found_loaded own old (access_of c)) c.point)
 course o hash own old new c s is rests walks e =
@@ -196,7 +196,7 @@ no_seal (SealedLive n) = refl
 no_seal (SealedTomb n) = refl
 
 -- what an operation answers that changes nothing by its last access: the node that it found, if it is a look
-pub answers_found : {K V : Type 0} (o : TableOp K V) (own : ℕ → Bool) (m : Memory) (h : ℕ) (p : Point) → IsNoChange p →
+pub answers_found : {K V : Type 0} (o : KeyOp K V) (own : ℕ → Bool) (m : Memory) (h : ℕ) (p : Point) → IsNoChange p →
     found_by o own m (wanted h p) ≡ cond (is_look o) (found_loaded own m (wanted h p)) None
 answers_found o own m h (call.Change a l v from to) nay = absurd nay
 answers_found o own m h (call.Root met) nay = no_either (is_look o)

@@ -5,15 +5,16 @@ use Rattle.std.specs.Cmp.{IsEquivalence}
 use Rattle.std.specs.List.{slice_get}
 use Rattle.std.specs.declared.alloc.AllocError.{AllocError}
 use Rattle.moka_hist.specs.Finite.{put_key}
-use Rattle.moka_hist.specs.Tables.{key_of, answer_of, taken_by}
+use Rattle.moka_hist.specs.Tables.{answer_of, taken_by}
 use Rattle.moka_hist.specs.declared.records.Stored.{Stored}
-use Rattle.moka_hist.specs.declared.tables.TableOp.{TableOp}
-use Rattle.moka_hist.specs.declared.tables.TableOp.TheVariants as op
+use Rattle.moka_buckets.specs.KeyOps.{MovesKey, key_of}
+use Rattle.moka_buckets.specs.declared.key_op.KeyOp.{KeyOp}
+use Rattle.moka_buckets.specs.declared.key_op.KeyOp.TheVariants as op
 use Rattle.moka_hist.specs.declared.tables.TableTurn.{TableTurn}
 use Rattle.moka_hist.specs.declared.tables.TableTurn.TheVariants as turn
 use Rattle.moka_words.specs.Effect.{Memory}
 use Rattle.moka_growth.proofs.Shortness.{short_grows}
-use Rattle.moka_table.specs.Map.{Pairs, Moves, SameMap}
+use Rattle.moka_table.specs.Map.{Pairs, SameMap}
 use Rattle.moka_buckets.specs.declared.node.Node.{Node}
 use Rattle.moka_buckets.specs.declared.bucket_call.BucketCall.{BucketCall}
 use Rattle.moka_buckets.specs.Nodes.{Agrees}
@@ -29,8 +30,8 @@ stays true q e f = e q
 stays false q e f = f q
 
 -- moves from a map are moves from the same map
-moves_same : {K V : Type 0} (eq : K → K → Bool) (o : TableOp K V) (g f : Pairs K V) (keys : ℕ) (t : TableTurn K V) (new : Pairs K V) (count : ℕ) →
-    ((q : K) → g q ≡ f q) → Moves eq o g keys t new count → Moves eq o f keys t new count
+moves_same : {K V : Type 0} (eq : K → K → Bool) (o : KeyOp K V) (g f : Pairs K V) (keys : ℕ) (t : TableTurn K V) (new : Pairs K V) (count : ℕ) →
+    ((q : K) → g q ≡ f q) → MovesKey eq o g keys t new count → MovesKey eq o f keys t new count
 moves_same eq o g f keys turn.Going new count same moves = (λ q. moves.0 q ∙ same q, moves.1)
 moves_same eq (op.Get key) g f keys (turn.Decided answer) new count same moves =
     (moves.0 ∙ ap answer_of (same key), λ q. moves.1 q ∙ same q, moves.2)
@@ -109,8 +110,8 @@ module _ {K V : Type 0} (eq : K → K → Bool) (laws : IsEquivalence eq) (hash 
   agrees_before keys agrees n node there = agrees n node (kept.grows n node there)
 
   -- what the operation moves from a map it moves from the same map
-  moves_from : (t : TableTurn K V) (new : Memory) → Moves eq before.operation (map_of eq old more) old.len t (map_of eq new more) new.len →
-      Moves eq before.operation (map_of eq old nodes) old.len t (map_of eq new more) new.len
+  moves_from : (t : TableTurn K V) (new : Memory) → MovesKey eq before.operation (map_of eq old more) old.len t (map_of eq new more) new.len →
+      MovesKey eq before.operation (map_of eq old nodes) old.len t (map_of eq new more) new.len
   moves_from t new moves = moves_same eq before.operation (map_of eq old more) (map_of eq old nodes) old.len t (map_of eq new more) new.len kept.map moves
 
   pub done : (new : Memory) (after : BucketCall K V) (t : TableTurn K V) → after.operation ≡ before.operation → after.hash ≡ before.hash → after.node ≡ made →

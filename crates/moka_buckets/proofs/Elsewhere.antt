@@ -1,17 +1,18 @@
 -- Calls that list keys, where a step is made in their segment, and where theirs isn't there.
-use Rattle.std.proofs.Common.{◌≡◌, ◌↔◌, ℕ, ◌<◌, ◌≤◌, Bool, true, List, [], length, Some, Ok, refl, inl, inr, sym, ap, subst, ◌∙◌, arith, set}
+use Rattle.std.proofs.Common.{◌≡◌, ◌↔◌, ℕ, ◌<◌, ◌≤◌, Bool, true, List, [], length, None, Some, Ok, refl, inl, inr, sym, ap, subst, ◌∙◌, arith, set}
 use Rattle.std.proofs.lemmas.Bool.{cases_eq, false≢true}
-use Rattle.std.proofs.lemmas.Option.{slice_get_within}
+use Rattle.std.proofs.lemmas.Option.{slice_get_past, slice_get_within}
 use Rattle.std.specs.List.{slice_get}
+use Rattle.std.specs.Option.{option_map_or}
 use Rattle.moka_growth.specs.declared.kinds.CallKind.TheVariants as kind
 use Rattle.moka_growth.specs.Calls.{Step, Going, Decided, Nodes, call_from}
 use Rattle.moka_calls.specs.Standing.{IsGoing}
 use Rattle.moka_buckets.specs.declared.part.Part.{Part}
 use Rattle.moka_buckets.specs.declared.keys_call.KeysCall.{KeysCall}
 use Rattle.moka_buckets.specs.Nodes.{key_in}
-use Rattle.moka_buckets.specs.Walks.{is_ended, listed_by, AreNodes, WalksOn}
+use Rattle.moka_buckets.specs.Walks.{carried, is_ended, listed_by, node_next, word_next, AreNodes, WalksOn}
 use Rattle.moka_buckets.specs.Parts.{memory_at, AreParts}
-use Rattle.moka_buckets.specs.Keys.{FitsKeys, FitsThere, FitsNowhere, ListsIt, WalksOver}
+use Rattle.moka_buckets.specs.Keys.{FitsKeys, FitsThere, FitsNowhere, ListsIt, WalksOver, word_over}
 use Rattle.moka_buckets.proofs.Placed.{get-set-same, get-set-other}
 
 one_item : {A : Type 0} {x y : A} → Some x ≡ Some y → x ≡ y
@@ -80,6 +81,9 @@ module _ {K V : Type 0} (eq : K → K → Bool) (hash : K → ℕ) where
         | inr d ↦ (q, get-set-other parts i c.segment new d ∙ at, x, n, e, is)
       ]
 
+  no_word : (parts : List (Part K V)) (c : KeysCall) → length parts ≤ c.segment → word_over parts c ≡ None
+  no_word parts c past = ap (λ o. option_map_or (λ p. word_next (memory_at p) c.table) o None) (slice_get_past parts c.segment past)
+
   -- the step of a call to a segment that isn't there
   pub walks_nowhere : (first most len : ℕ) (parts : List (Part K V)) → AreParts eq hash parts first most len → (before after : KeysCall) → FitsNowhere parts before →
       after.segment ≡ before.segment → after.table ≡ Decided (Nodes []) → WalksOver eq hash first parts most len before (Ok true) parts after
@@ -96,5 +100,7 @@ module _ {K V : Type 0} (eq : K → K → Bool) (hash : K → ℕ) where
     covers = λ key d has l. absurd (never_there parts before.segment fits.absent l.0 l.1);
     others = λ c f. f;
     keys = record { fits = λ c f. f; lists = λ c key f. (λ l. l, λ l. l); covers = λ c key f d has covers. covers };
+    adds = ap listed_by ended ∙ sym (ap (λ w. carried (listed_by before.table) w (node_next w)) (no_word parts before fits.absent));
+    nodes = λ i. refl;
     err = tt;
   }

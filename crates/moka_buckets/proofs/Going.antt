@@ -4,11 +4,12 @@ use Rattle.std.proofs.lemmas.Option.{slice_get_within}
 use Rattle.std.specs.List.{slice_get}
 use Rattle.std.specs.declared.alloc.AllocError.{AllocError}
 use Rattle.moka_hist.specs.Tables.{taken_by}
-use Rattle.moka_hist.specs.declared.tables.TableOp.{TableOp}
-use Rattle.moka_hist.specs.declared.tables.TableOp.TheVariants as op
+use Rattle.moka_buckets.specs.KeyOps.{MovesKey, keys_after}
+use Rattle.moka_buckets.specs.declared.key_op.KeyOp.{KeyOp}
+use Rattle.moka_buckets.specs.declared.key_op.KeyOp.TheVariants as op
 use Rattle.moka_hist.specs.declared.tables.TableTurn.{TableTurn}
 use Rattle.moka_hist.specs.declared.tables.TableTurn.TheVariants as turn
-use Rattle.moka_table.specs.Map.{Pairs, Moves, SameMap, keys_after, most_steps}
+use Rattle.moka_table.specs.Map.{Pairs, SameMap, most_steps}
 use Rattle.moka_buckets.specs.declared.part.Part.{Part}
 use Rattle.moka_buckets.specs.declared.bucket_call.BucketCall.{BucketCall}
 use Rattle.moka_buckets.specs.Steps.{CanBegin}
@@ -21,7 +22,7 @@ one_item : {A : Type 0} {x y : A} → Some x ≡ Some y → x ≡ y
 one_item d = cc
 
 -- an operation makes at most one key more
-keys_few : {K V : Type 0} (f : Pairs K V) (k more : ℕ) (o : TableOp K V) → more ≡ keys_after f k o → more ≤ k + 1
+keys_few : {K V : Type 0} (f : Pairs K V) (k more : ℕ) (o : KeyOp K V) → more ≡ keys_after f k o → more ≤ k + 1
 keys_few f k more (op.Get key) is = omega (arith, is)
 keys_few f k more (op.InsertOrModify key stored) is = by (is_some (f key)) is
   where
@@ -92,7 +93,7 @@ module _ {K V : Type 0} (eq : K → K → Bool) (hash : K → ℕ) (first most l
 -- what the contract says of segments before and after, under two names for one hasher and one length
 pub record Does {K V : Type 0} (eq : K → K → Bool) (hash : K → ℕ) (first : ℕ) (old : List (Part K V)) (len : ℕ) (before : BucketCall K V)
     (gives : Result (TableTurn K V) AllocError) (kept : K → ℕ) (least : ℕ) (new : List (Part K V)) (more all : ℕ) (after : BucketCall K V) : Type 0 where
-  pub moves : IfOk gives (λ t. (o : TableOp K V) → operation_of before ≡ Some o → Moves eq o (map_over eq hash old) len t (map_over eq kept new) all)
+  pub moves : IfOk gives (λ t. (o : KeyOp K V) → operation_of before ≡ Some o → MovesKey eq o (map_over eq hash old) len t (map_over eq kept new) all)
   pub undecided : IfOk gives (λ t. t ≡ turn.Going → (operation_of after ≡ operation_of before) × FitsParts eq kept new after)
   pub nears : IfOk gives (λ t. t ≡ turn.Going → left_over least new after < left_over first old before)
   pub others : (c : BucketCall K V) → FitsParts eq hash old c → FitsParts eq kept new c
@@ -110,9 +111,9 @@ module _ {K V : Type 0} (eq : K → K → Bool) (hash : K → ℕ) (first most l
       × (left_over first new after ≡ left_over first old before)
       × ((c : BucketCall K V) → FitsParts eq hash old c → left_over first new c ≤ left_over first old c)
 
-  named : (r : Result (TableTurn K V) AllocError) → IfOk r (λ t. Moves eq before.operation (map_over eq hash old) len t (map_over eq hash new) all) →
-      IfOk r (λ t. (o : TableOp K V) → operation_of before ≡ Some o → Moves eq o (map_over eq hash old) len t (map_over eq hash new) all)
-  named (Ok t) m = λ o is. subst (λ x. Moves eq x (map_over eq hash old) len t (map_over eq hash new) all) (one_item is) m
+  named : (r : Result (TableTurn K V) AllocError) → IfOk r (λ t. MovesKey eq before.operation (map_over eq hash old) len t (map_over eq hash new) all) →
+      IfOk r (λ t. (o : KeyOp K V) → operation_of before ≡ Some o → MovesKey eq o (map_over eq hash old) len t (map_over eq hash new) all)
+  named (Ok t) m = λ o is. subst (λ x. MovesKey eq x (map_over eq hash old) len t (map_over eq hash new) all) (one_item is) m
   named (Err e) m = tt
 
   begun : (r : Result (TableTurn K V) AllocError) → IfOk r (λ t. t ≡ turn.Going → FitsParts eq hash new after) →

@@ -4,10 +4,11 @@ use Rattle.std.proofs.lemmas.Bool.{false≢true}
 use Rattle.std.specs.Cmp.{IsEquivalence}
 use Rattle.std.specs.Option.{option_map, option_map_or}
 use Rattle.std.specs.List.{find, slice_get}
-use Rattle.moka_hist.specs.Tables.{key_of, taken_by}
+use Rattle.moka_hist.specs.Tables.{taken_by}
 use Rattle.moka_hist.specs.declared.records.Stored.{Stored}
-use Rattle.moka_hist.specs.declared.tables.TableOp.{TableOp}
-use Rattle.moka_hist.specs.declared.tables.TableOp.TheVariants as op
+use Rattle.moka_buckets.specs.KeyOps.{key_of}
+use Rattle.moka_buckets.specs.declared.key_op.KeyOp.{KeyOp}
+use Rattle.moka_buckets.specs.declared.key_op.KeyOp.TheVariants as op
 use Rattle.moka_words.specs.declared.words.Word.{Word}
 use Rattle.moka_words.specs.declared.accesses.Choice.TheVariants as choice
 use Rattle.moka_words.specs.Words.{stored_in}
@@ -39,7 +40,7 @@ made {K} {V} (Some pair) hash node e = (pair.0, pair.1, refl, some_one e)
     some_one d = cc
 
 -- the node is that of the pair that the operation stores
-pub made_from : {K V : Type 0} (o : TableOp K V) (hash : ℕ) (node : Node K V) →
+pub made_from : {K V : Type 0} (o : KeyOp K V) (hash : ℕ) (node : Node K V) →
     option_map {U = Node K V} (λ pair. record { key = pair.0; stored = pair.1; hash = hash }) (stored_by o) ≡ Some node →
     (key : K) × (stored : Stored V) × (stored_by o ≡ Some (key, stored)) × (record { key = key; stored = stored; hash = hash } ≡ node)
 made_from o hash node e = made (stored_by o) hash node e
@@ -75,7 +76,7 @@ module _ {K V : Type 0} (eq : K → K → Bool) (laws : IsEquivalence eq) (hash 
       by (Some node) e f = ap (option_map {U = K × Stored V} (λ node. (node.key, node.stored))) (get-front nodes (x ∷ []) n node e ∙ sym e)
 
   -- a choice that changes something is that of the nodes before
-  choice_more : (o : TableOp K V) (stored found : Option ℕ) (w to : Word) → put_by (choose nodes o stored found) w ≡ Some to → choose more o stored found ≡ choose nodes o stored found
+  choice_more : (o : KeyOp K V) (stored found : Option ℕ) (w to : Word) → put_by (choose nodes o stored found) w ≡ Some to → choose more o stored found ≡ choose nodes o stored found
   choice_more (op.Get key) stored found w to e = refl
   choice_more (op.InsertOrModify key st) stored found w to e = refl
   choice_more (op.InsertIfAbsent key st) stored found w to e = refl
@@ -87,7 +88,7 @@ module _ {K V : Type 0} (eq : K → K → Bool) (laws : IsEquivalence eq) (hash 
       by None is f = absurd (no_put f)
       by (Some p) is f = ap (λ q. cond (is_some (taken_by stamp q)) choice.Remove choice.Keep) (pair_more n (subst IsSome (sym is) refl))
 
-  puts_more : (o : TableOp K V) (stored : Option ℕ) (p : Point) → Puts nodes o stored p → Puts (nodes ++ x ∷ []) o stored p
+  puts_more : (o : KeyOp K V) (stored : Option ℕ) (p : Point) → Puts nodes o stored p → Puts (nodes ++ x ∷ []) o stored p
   puts_more o stored (call.Change a l v from to) puts = ap (λ y. put_by y from) (choice_more o stored (stored_in from) from to puts) ∙ puts
   puts_more o stored (call.Root met) puts = tt
   puts_more o stored (call.Probe a l v) puts = tt
@@ -100,7 +101,7 @@ module _ {K V : Type 0} (eq : K → K → Bool) (laws : IsEquivalence eq) (hash 
   puts_more o stored (call.Copy from a i laid) puts = tt
   puts_more o stored (call.Swing from a) puts = tt
 
-  pub runs_more : (m : Memory) (o : TableOp K V) (stored : Option ℕ) (step : Step) → RunsOn eq hash m nodes o stored step →
+  pub runs_more : (m : Memory) (o : KeyOp K V) (stored : Option ℕ) (step : Step) → RunsOn eq hash m nodes o stored step →
       RunsOn eq hash m (nodes ++ x ∷ []) o stored step
   runs_more m o stored (Decided e) r = r
   runs_more m o stored (Going c) r = record {
@@ -148,14 +149,14 @@ module _ {K V : Type 0} (eq : K → K → Bool) (laws : IsEquivalence eq) (hash 
       same (Some n) f = pair_more n (present n f.0)
 
 -- without a node an operation that has one to store makes no change
-choice_none : {K V : Type 0} (nodes : List (Node K V)) (o : TableOp K V) (found : Option ℕ) → IsSome (stored_by o) → choose nodes o None found ≡ choice.Keep
+choice_none : {K V : Type 0} (nodes : List (Node K V)) (o : KeyOp K V) (found : Option ℕ) → IsSome (stored_by o) → choose nodes o None found ≡ choice.Keep
 choice_none nodes (op.Get key) found has = refl
 choice_none nodes (op.InsertOrModify key stored) found has = refl
 choice_none nodes (op.InsertIfAbsent key stored) None has = refl
 choice_none nodes (op.InsertIfAbsent key stored) (Some n) has = refl
 choice_none nodes (op.RemoveIf key stamp) found has = absurd (false≢true has)
 
-puts_none : {K V : Type 0} (nodes longer : List (Node K V)) (o : TableOp K V) (stored : Option ℕ) (p : Point) → IsSome (stored_by o) → Puts nodes o None p →
+puts_none : {K V : Type 0} (nodes longer : List (Node K V)) (o : KeyOp K V) (stored : Option ℕ) (p : Point) → IsSome (stored_by o) → Puts nodes o None p →
     Puts longer o stored p
 puts_none nodes longer o stored (call.Change a l v from to) has puts =
     absurd (no_put (sym (ap (λ x. put_by x from) (choice_none nodes o (stored_in from) has)) ∙ puts))
@@ -171,7 +172,7 @@ puts_none nodes longer o stored (call.Copy from a i laid) has puts = tt
 puts_none nodes longer o stored (call.Swing from a) has puts = tt
 
 -- the node of the pair to be stored is new
-pub runs_named : {K V : Type 0} (eq : K → K → Bool) (hash : K → ℕ) (m : Memory) (nodes : List (Node K V)) (x : Node K V) (o : TableOp K V) (step : Step) →
+pub runs_named : {K V : Type 0} (eq : K → K → Bool) (hash : K → ℕ) (m : Memory) (nodes : List (Node K V)) (x : Node K V) (o : KeyOp K V) (step : Step) →
     stored_by o ≡ Some (x.key, x.stored) → RunsOn eq hash m nodes o None step → RunsOn eq hash m (nodes ++ x ∷ []) o (Some (length nodes)) step
 runs_named eq hash m nodes x o (Decided e) is r = r
 runs_named {K} {V} eq hash m nodes x o (Going c) is r = record {
@@ -194,7 +195,7 @@ runs_named {K} {V} eq hash m nodes x o (Going c) is r = record {
 first_one : {K V : Type 0} {x y : K × Stored V} → Some x ≡ Some y → x.0 ≡ y.0
 first_one d = cc
 
-pub stored_key : {K V : Type 0} (o : TableOp K V) (key : K) (stored : Stored V) → stored_by o ≡ Some (key, stored) → key ≡ key_of o
+pub stored_key : {K V : Type 0} (o : KeyOp K V) (key : K) (stored : Stored V) → stored_by o ≡ Some (key, stored) → key ≡ key_of o
 stored_key (op.Get k) key stored e = absurd (cc e)
 stored_key (op.InsertOrModify k st) key stored e = sym (first_one e)
 stored_key (op.InsertIfAbsent k st) key stored e = sym (first_one e)

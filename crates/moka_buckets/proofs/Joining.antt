@@ -140,3 +140,15 @@ lists_over {K} {V} eq hash respects parts first most len well pairs is = record 
   where
     from : (i : ℕ) (p : Part K V) → slice_get parts i ≡ Some p → IsPart eq hash (length parts) first most (0 + i) p
     from i p e = subst (λ n. IsPart eq hash (length parts) first most n p) (omega arith) (well.each i p e)
+
+-- and their keys are those that the map has
+pub keys_over : {K V : Type 0} (eq : K → K → Bool) (hash : K → ℕ) (respects : (x y : K) → eq x y ≡ true → hash x ≡ hash y) (parts : List (Part K V)) (first most len : ℕ) →
+    AreParts eq hash parts first most len →
+    IsDistinct eq (keys_of (entries (listed_over parts))) × ((q : K) → lookup (eq q) (entries (listed_over parts)) ≡ map_over eq hash parts q)
+keys_over {K} {V} eq hash respects parts first most len well = (
+  distinct_over eq hash respects (length parts) first most 0 parts from,
+  λ q. lookup_over eq hash respects (length parts) first most q 0 (segment_of (length parts) (hash q)) parts from (omega arith),
+)
+  where
+    from : (i : ℕ) (p : Part K V) → slice_get parts i ≡ Some p → IsPart eq hash (length parts) first most (0 + i) p
+    from i p e = subst (λ n. IsPart eq hash (length parts) first most n p) (omega arith) (well.each i p e)

@@ -14,6 +14,7 @@ use Rattle.moka_buckets.specs.Keys.{FitsKeys, IsListing, ListsIt, keys_in, nodes
 use Rattle.moka_buckets.specs.Parts.{memory_at, peak_at, segment_of, AreParts}
 use Rattle.moka_buckets.specs.Walks.{AreFew, WalksOn, is_ended, listed_by}
 use Rattle.moka_buckets.proofs.Few.{few_keys_in}
+use Rattle.moka_buckets.proofs.Keyed.{listing_by}
 
 some_one : {A : Type 0} {x y : A} → Some x ≡ Some y → x ≡ y
 some_one e = cc
@@ -51,7 +52,7 @@ module _ {K V : Type 0} (eq : K → K → Bool) (hash : K → ℕ) (first most l
       omega (arith, same, short, few)
 
   -- a key that was listed belongs to the segment
-  own_key : (key : K) → ListsIt parts c key → segment_of (length parts) (hash key) ≡ c.segment
+  pub own_key : (key : K) → ListsIt parts c key → segment_of (length parts) (hash key) ≡ c.segment
   own_key key (p, there, x, n, at, is) = by (slice_get p.nodes.items n) refl is
     where
       by : (o : Option (Node K V)) → slice_get p.nodes.items n ≡ o → option_map (λ node. node.key) o ≡ Some key → segment_of (length parts) (hash key) ≡ c.segment
@@ -73,3 +74,14 @@ module _ {K V : Type 0} (eq : K → K → Bool) (hash : K → ℕ) (first most l
       segment_of (length parts) (hash key) ≡ c.segment)
   own_of X items (Err e) listing = tt
   own_of X items (Ok keys) listing = λ list e x key at. own_key key ((listing list e).listed x key at)
+
+  -- the keys of a call that has just ended
+  pub few_at : (r : Result Bool AllocError) → IfOk r (λ done. done ≡ is_ended c.table) →
+      IfOk r (λ done. done ≡ true → length (keys_in (nodes_of parts c.segment) (listed_by c.table)) ≤ first + 3 * most)
+  few_at (Err e) ended = tt
+  few_at (Ok done) ended = λ is. few_keys (keys_in (nodes_of parts c.segment) (listed_by c.table)) (sym ended ∙ is) refl
+
+  pub listing_at : (r : Result Bool AllocError) → IfOk r (λ done. done ≡ is_ended c.table) →
+      IfOk r (λ done. done ≡ true → IsListing eq parts c (keys_in (nodes_of parts c.segment) (listed_by c.table)))
+  listing_at (Err e) ended = tt
+  listing_at (Ok done) ended = λ is. listing_by eq hash parts c fits (sym ended ∙ is) (keys_in (nodes_of parts c.segment) (listed_by c.table)) refl

@@ -142,7 +142,7 @@ module _ {K V : Type 0} (eq : K → K → Bool) (hash : K → ℕ) where
       none : listed_by c.table ≡ []
       none = elim fits.empty [ inl going ↦ ap listed_by going | inr done ↦ ap listed_by done ]
 
-  listing_by : (parts : List (Part K V)) (c : KeysCall) → FitsKeys eq hash parts c → is_ended c.table ≡ true → (keys : List K) →
+  pub listing_by : (parts : List (Part K V)) (c : KeysCall) → FitsKeys eq hash parts c → is_ended c.table ≡ true → (keys : List K) →
       keys ≡ keys_in (nodes_of parts c.segment) (listed_by c.table) → IsListing eq parts c keys
   listing_by parts c (inl fits) ended keys is = listing_is parts c fits ended keys
       (is ∙ ap (λ o. keys_in (option_map_or (λ p. p.nodes.items) o []) (listed_by c.table)) fits.there)

@@ -5,8 +5,8 @@ use Rattle.std.proofs.lemmas.List.Sorted.{length_permutation}
 use Rattle.std.specs.Cmp.{IsEquivalence}
 use Rattle.std.specs.List.{find, slice_get}
 use Rattle.std.specs.Option.{option_eq, option_map, option_map_or, option_to_list}
-use Rattle.moka_hist.specs.Tables.{key_of}
-use Rattle.moka_hist.specs.declared.tables.TableOp.{TableOp}
+use Rattle.moka_buckets.specs.KeyOps.{key_of}
+use Rattle.moka_buckets.specs.declared.key_op.KeyOp.{KeyOp}
 use Rattle.moka_words.specs.Words.{is_sealed, stored_in}
 use Rattle.moka_words.specs.declared.accesses.Seen.{Seen}
 use Rattle.moka_words.specs.declared.accesses.Seen.TheVariants as seen
@@ -32,7 +32,8 @@ use Rattle.moka_growth.proofs.Lasts.{fits_lasts}
 use Rattle.moka_buckets.specs.declared.node.Node.{Node}
 use Rattle.moka_buckets.specs.Nodes.{hash_by, same_by, own_by, mine_by, key_in, pair_at, Agrees}
 use Rattle.moka_buckets.specs.Tables.{map_of, IsWell, RunsOn}
-use Rattle.moka_buckets.specs.Walks.{IsNoSeek, owns_none, AreNodes, AreOfMap, Covers, Walks, WalksOn, Lead, listed_in}
+use Rattle.moka_buckets.specs.Walks.{IsNoSeek, owns_none, AreNodes, AreOfMap, Covers, Walks, WalksOn, Lead, carried, listed_by, listed_in, node_next, word_next}
+use Rattle.moka_buckets.proofs.Carrying.{carries, rest_of}
 use Rattle.moka_buckets.proofs.Few.{FewAfter, few_course, few_ended, few_last}
 use Rattle.moka_buckets.proofs.Naming.{names_keys, is_own, is_key}
 use Rattle.moka_buckets.proofs.Found.{found_finds}
@@ -160,6 +161,12 @@ module _ {K V : Type 0} (eq : K → K → Bool) (laws : IsEquivalence eq) (hash 
           (present_pair eq laws hash respects nodes old well.sound n here))
     ]
 
+    -- what it has listed then
+    adds_by : (mid : Step) → next_of c saw ≡ mid →
+        listed_by mid ≡ carried (listed c.point) (word_next old (Going c)) (node_next (word_next old (Going c)))
+    adds_by mid is = sym (ap listed_by is)
+        ∙ carries old new (hash_by hash (key_in nodes)) owns_none c walks.kind c.point (rest_of c.point) walks.seeks saw (effect (key_in nodes) (agrees_now nodes))
+
     -- it goes on
     on : (d : Call) → next_of c saw ≡ Going d → Course (Going d) → Lead eq hash nodes first peak old (Going c) new (Going d)
     on d is at =
@@ -186,6 +193,7 @@ module _ {K V : Type 0} (eq : K → K → Bool) (laws : IsEquivalence eq) (hash 
               listed_key_goes_on (hash_by hash keys) (same_by eq keys) (mine_by keys) owns_none (own_by eq keys key) c d saw old new (makes keys agrees)
               (is_own eq laws hash respects key keys) (has_key old key has keys agrees) (covers keys agrees) is;
           later = λ keys agrees. access_is_later (hash_by hash keys) (same_by eq keys) (mine_by keys) owns_none c saw old new (makes keys agrees);
+          adds = adds_by (Going d) is;
         }
 
     -- it ends with its list
@@ -212,6 +220,7 @@ module _ {K V : Type 0} (eq : K → K → Bool) (laws : IsEquivalence eq) (hash 
               listed_key_ends (hash_by hash now) (same_by eq now) (mine_by now) owns_none (own_by eq now key) c ns saw old new makes_now
               (is_own eq laws hash respects key now) (has_key old key has now (agrees_now nodes)) (covers now (agrees_now nodes)) is;
           later = λ keys agrees. access_is_later (hash_by hash keys) (same_by eq keys) (mine_by keys) owns_none c saw old new (makes keys agrees);
+          adds = adds_by (Decided (Nodes ns)) is;
         }
 
     led_by : (mid : Step) → next_of c saw ≡ mid → Course mid → Lead eq hash nodes first peak old (Going c) new mid
@@ -230,7 +239,7 @@ module _ {K V : Type 0} (eq : K → K → Bool) (laws : IsEquivalence eq) (hash 
 
   -- what stays of the calls while others make their steps
   module _ (old new : Memory) (sound : Sound eq laws hash respects nodes old) (later : (keys : ℕ → Option K) → Agrees keys nodes → LaterMemory (same_by eq keys) old new) where
-    pub runs_last : (o : TableOp K V) (stored : Option ℕ) (step : Step) → RunsOn eq hash old nodes o stored step → RunsOn eq hash new nodes o stored step
+    pub runs_last : (o : KeyOp K V) (stored : Option ℕ) (step : Step) → RunsOn eq hash old nodes o stored step → RunsOn eq hash new nodes o stored step
     runs_last o stored (Decided e) r = r
     runs_last o stored (Going d) r = record {
       kind = r.kind;

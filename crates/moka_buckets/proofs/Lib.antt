@@ -22,6 +22,7 @@ pub mod Numbered
 pub mod Ranged
 pub mod Renewing
 pub mod Renewed
+pub mod Carrying
 pub mod Led
 pub mod Walks
 pub mod Across
@@ -36,3 +37,7 @@ pub mod Few
 pub mod KeyLists
 pub mod Tested
 pub mod OwnKeys
+pub mod ListedKeys
+pub mod WholeLists
+pub mod Parting
+pub mod TableSteps

@@ -1,6 +1,7 @@
 -- The keys that the root of a segment stores are those of the map.
 use Rattle.std.proofs.Common.{◌≡◌, ◌<◌, ℕ, ◌+◌, Bool, true, false, cond, List, [], ◌∷◌, ◌++◌, length, drop, Option, Some, None, is_some, refl, sym, ap, subst, ◌∙◌, add-one, ◌||◌}
 use Rattle.std.proofs.Math.Seq.{drop-cons}
+use Rattle.std.proofs.lemmas.List.{map-append}
 use Rattle.std.specs.List.{flat_map, slice_get, IsDistinct, AllByRecursion}
 use Rattle.std.specs.Map.{keys_of, lookup}
 use Rattle.std.specs.Option.{option_map, option_map_or, option_to_list}
@@ -15,7 +16,7 @@ use Rattle.moka_buckets.specs.declared.part.Part.{Part}
 use Rattle.moka_buckets.specs.Nodes.{pair_at}
 use Rattle.moka_buckets.specs.Asking.{ListsSegment}
 use Rattle.moka_buckets.specs.Listed.{keys_at, listed_in}
-use Rattle.moka_buckets.specs.Parts.{AreParts, IsPart, listed_part, map_at, map_over, memory_at, peak_at, segment_of}
+use Rattle.moka_buckets.specs.Parts.{AreParts, IsPart, listed_over, listed_part, map_at, map_over, memory_at, peak_at, segment_of}
 use Rattle.moka_buckets.proofs.Listings.{entries, lookup_listed, all_listed, listed_distinct}
 
 pub key_first : {K V : Type 0} (o : Option (K × V)) (k : K) (more : List (K × V)) → Some k ≡ option_map (λ p. p.0) o → keys_of (option_to_list o ++ more) ≡ k ∷ keys_of more
@@ -32,7 +33,7 @@ pub keys_from : {K V : Type 0} (nodes : List (Node K V)) (words : List Word) (i 
 keys_from nodes words i below = rw add-one (ap (λ x. keys_of (listed_in nodes x)) (drop-cons words i Unset below))
 
 module _ {K V : Type 0} where
-  keys_same : (ps : List (K × Stored V)) → keys_of (entries ps) ≡ keys_of ps
+  pub keys_same : (ps : List (K × Stored V)) → keys_of (entries ps) ≡ keys_of ps
   keys_same [] = refl
   keys_same (p ∷ ps) = ap (λ ks. p.0 ∷ ks) (keys_same ps)
 
@@ -73,3 +74,8 @@ keys_listed {K} {V} nodes (w ∷ ws) = by (pair_at nodes (stored_in w)) (keys_li
         option_to_list (option_map (λ p. p.0) o) ++ flat_map (keys_at nodes) ws ≡ keys_of (option_to_list o ++ listed_in nodes ws)
     by None e = e
     by (Some p) e = ap (λ ks. p.0 ∷ ks) e
+
+-- and those of all segments are the keys of the pairs that they list
+pub keys_flat : {K V : Type 0} (ps : List (Part K V)) → flat_map (λ p. keys_of (listed_part p)) ps ≡ keys_of (listed_over ps)
+keys_flat [] = refl
+keys_flat (p ∷ ps) = ap (λ ks. keys_of (listed_part p) ++ ks) (keys_flat ps) ∙ sym (map-append (λ x. x.0) (listed_part p) (listed_over ps))

@@ -4,7 +4,7 @@ use Rattle.std.proofs.lemmas.Bool.{cases_lt, false≢true}
 use Rattle.std.proofs.lemmas.Option.{slice_get_within}
 use Rattle.std.specs.List.{slice_get}
 use Rattle.std.specs.Option.{option_map, option_map_or, option_to_list}
-use Rattle.moka_hist.specs.declared.tables.TableOp.{TableOp}
+use Rattle.moka_buckets.specs.declared.key_op.KeyOp.{KeyOp}
 use Rattle.moka_words.specs.declared.accesses.Choice.{Choice}
 use Rattle.moka_words.specs.declared.accesses.Choice.TheVariants as choice
 use Rattle.moka_words.specs.declared.words.Word.{Word}
@@ -136,7 +136,7 @@ module _ {K V : Type 0} (eq : K → K → Bool) (hash : K → ℕ) (nodes : List
       let here = before_one m sound fits.place m.rooted from fits.left.stands (record { there = is; within = sound.linked }) in
       subst (λ p. array_at m p ≡ Some a) here fits.there
 
-  pub can_make : (o : TableOp K V) (own : ℕ → Bool) (h : ℕ) (stored : Option ℕ) (p : Point) → Rests p → Puts nodes o stored p →
+  pub can_make : (o : KeyOp K V) (own : ℕ → Bool) (h : ℕ) (stored : Option ℕ) (p : Point) → Rests p → Puts nodes o stored p →
       FitsAt (hash_by hash (key_in nodes)) own h (memory_of s) p → CanMake (memory_of s) nodes (wanted h p)
   can_make o own h stored (call.Probe a l v) rests puts fits = named a (bucket_at l h v) fits.rooted
   can_make o own h stored (call.Choose a l v w) rests puts fits = absurd rests

@@ -3,8 +3,8 @@ use Rattle.std.proofs.Common.{◌≡◌, ◌⊎◌, ℕ, Bool, true, false, cond
 use Rattle.std.proofs.lemmas.Bool.{false≢true}
 use Rattle.std.specs.Option.{option_eq, option_map, option_to_list}
 use Rattle.moka_hist.specs.declared.records.Stored.{Stored}
-use Rattle.moka_hist.specs.declared.tables.TableOp.{TableOp}
-use Rattle.moka_hist.specs.declared.tables.TableOp.TheVariants as op
+use Rattle.moka_buckets.specs.declared.key_op.KeyOp.{KeyOp}
+use Rattle.moka_buckets.specs.declared.key_op.KeyOp.TheVariants as op
 use Rattle.moka_words.specs.declared.words.Word.{Word}
 use Rattle.moka_words.specs.declared.words.Word.TheVariants.{Unset, Empty, Live, Tomb, SealedEmpty, SealedLive, SealedTomb}
 use Rattle.moka_words.specs.declared.accesses.Access.{Access}
@@ -187,7 +187,7 @@ module _ {K V : Type 0} where
       by false e = none_some e
 
   -- an operation that puts has a pair to be stored
-  puts_stored : (o : TableOp K V) (found : Option ℕ) → puts_at o found ≡ true → IsSome (stored_by o)
+  puts_stored : (o : KeyOp K V) (found : Option ℕ) → puts_at o found ≡ true → IsSome (stored_by o)
   puts_stored (op.Get key) found e = absurd (false≢true e)
   puts_stored (op.InsertOrModify key stored) found e = refl
   puts_stored (op.InsertIfAbsent key stored) found e = refl
@@ -220,14 +220,14 @@ module _ {K V : Type 0} where
       by (inr (node, have, is_put, grown, call)) = subst IsSome (sym (ap (λ b. b.node) call)) refl
 
   -- and is to make the exchange that puts it
-  puts_choose : (nodes : List (Node K V)) (o : TableOp K V) (n : ℕ) (found : Option ℕ) → puts_at o found ≡ true → choose nodes o (Some n) found ≡ choice.Put n
+  puts_choose : (nodes : List (Node K V)) (o : KeyOp K V) (n : ℕ) (found : Option ℕ) → puts_at o found ≡ true → choose nodes o (Some n) found ≡ choice.Put n
   puts_choose nodes (op.Get key) n found e = absurd (false≢true e)
   puts_choose nodes (op.InsertOrModify key stored) n found e = refl
   puts_choose nodes (op.InsertIfAbsent key stored) n None e = refl
   puts_choose nodes (op.InsertIfAbsent key stored) n (Some m) e = absurd (false≢true e)
   puts_choose nodes (op.RemoveIf key stamp) n found e = absurd (false≢true e)
 
-  module _ (nodes : List (Node K V)) (o : TableOp K V) (n : ℕ) (c : Call) where
+  module _ (nodes : List (Node K V)) (o : KeyOp K V) (n : ℕ) (c : Call) where
     put_at : (p : Point) → puts_if o (asked_at p) ≡ true → WillPut (answered_at (choose nodes o (Some n)) c p) n
     put_at (call.Choose a l v w) puts = subst (λ x. WillPut (call.chosen c a l v w x) n) (sym (puts_choose nodes o n (stored_in w) puts))
         (a, bucket_at l c.hash v, w, refl)
@@ -242,7 +242,7 @@ module _ {K V : Type 0} where
     put_at (call.Copy from a i laid) puts = absurd (false≢true puts)
     put_at (call.Swing from a) puts = absurd (false≢true puts)
 
-  pub will_put : (nodes : List (Node K V)) (o : TableOp K V) (n : ℕ) (table : Step) → puts_if o (asked table) ≡ true →
+  pub will_put : (nodes : List (Node K V)) (o : KeyOp K V) (n : ℕ) (table : Step) → puts_if o (asked table) ≡ true →
       WillPut (answered (choose nodes o (Some n)) table) n
   will_put nodes o n (Decided e) puts = absurd (false≢true puts)
   will_put nodes o n (Going c) puts = put_at nodes o n c c.point puts

@@ -7,10 +7,11 @@ use Rattle.std.specs.List.{find, slice_get}
 use Rattle.std.specs.Option.{option_map_or}
 use Rattle.std.specs.declared.alloc.AllocError.{AllocError}
 use Rattle.moka_hist.specs.Finite.{put_key}
-use Rattle.moka_hist.specs.Tables.{key_of, answer_of, taken_by, stored_with}
+use Rattle.moka_hist.specs.Tables.{answer_of, taken_by}
 use Rattle.moka_hist.specs.declared.records.Stored.{Stored}
-use Rattle.moka_hist.specs.declared.tables.TableOp.{TableOp}
-use Rattle.moka_hist.specs.declared.tables.TableOp.TheVariants as op
+use Rattle.moka_buckets.specs.KeyOps.{MovesKey, key_of, keys_after, pair_answered, stored_with}
+use Rattle.moka_buckets.specs.declared.key_op.KeyOp.{KeyOp}
+use Rattle.moka_buckets.specs.declared.key_op.KeyOp.TheVariants as op
 use Rattle.moka_hist.specs.declared.tables.TableTurn.{TableTurn}
 use Rattle.moka_hist.specs.declared.tables.TableTurn.TheVariants as turn
 use Rattle.moka_words.specs.Effect.{Memory}
@@ -18,7 +19,7 @@ use Rattle.moka_growth.specs.Calls.{Step, Going, Decided}
 use Rattle.moka_growth.specs.Left.{IsShort}
 use Rattle.moka_growth.specs.Maps.{present_nodes}
 use Rattle.moka_growth.proofs.Bounding.{left_is_bounded}
-use Rattle.moka_table.specs.Map.{Pairs, Moves, SameMap, pair_answered, keys_after, most_steps}
+use Rattle.moka_table.specs.Map.{Pairs, SameMap, most_steps}
 use Rattle.moka_buckets.specs.declared.node.Node.{Node}
 use Rattle.moka_buckets.specs.declared.part.Part.{Part}
 use Rattle.moka_buckets.specs.declared.bucket_call.BucketCall.{BucketCall}
@@ -53,13 +54,13 @@ module _ {K V : Type 0} (eq : K → K → Bool) where
   at_key false a b c d q e f = f
 
   -- an operation looks at its key alone
-  pub answered_same : (o : TableOp K V) (f g : Pairs K V) → f (key_of o) ≡ g (key_of o) → pair_answered f o ≡ pair_answered g o
+  pub answered_same : (o : KeyOp K V) (f g : Pairs K V) → f (key_of o) ≡ g (key_of o) → pair_answered f o ≡ pair_answered g o
   answered_same (op.Get key) f g e = e
   answered_same (op.InsertOrModify key stored) f g e = e
   answered_same (op.InsertIfAbsent key stored) f g e = e
   answered_same (op.RemoveIf key stamp) f g e = ap (taken_by stamp) e
 
-  pub stored_same : (o : TableOp K V) (f g : Pairs K V) (q : K) → f (key_of o) ≡ g (key_of o) → f q ≡ g q → stored_with eq f o q ≡ stored_with eq g o q
+  pub stored_same : (o : KeyOp K V) (f g : Pairs K V) (q : K) → f (key_of o) ≡ g (key_of o) → f q ≡ g q → stored_with eq f o q ≡ stored_with eq g o q
   stored_same (op.Get key) f g q k e = e
   stored_same (op.InsertOrModify key stored) f g q k e = ap (λ x. cond (eq key q) (Some (key, stored)) x) e
   stored_same (op.InsertIfAbsent key stored) f g q k e =
@@ -71,7 +72,7 @@ module _ {K V : Type 0} (eq : K → K → Bool) where
       ∙ at_key (is_some (taken_by stamp (g key))) (put_key eq f key None) f (put_key eq g key None) g q (ap (λ x. cond (eq key q) None x) e) e
 
   -- and changes nothing under another one
-  pub stored_elsewhere : (o : TableOp K V) (f : Pairs K V) (q : K) → eq (key_of o) q ≡ false → stored_with eq f o q ≡ f q
+  pub stored_elsewhere : (o : KeyOp K V) (f : Pairs K V) (q : K) → eq (key_of o) q ≡ false → stored_with eq f o q ≡ f q
   stored_elsewhere (op.Get key) f q other = refl
   stored_elsewhere (op.InsertOrModify key stored) f q other = ap (λ b. cond b (Some (key, stored)) (f q)) other
   stored_elsewhere (op.InsertIfAbsent key stored) f q other =
@@ -96,7 +97,7 @@ taken_some None (Some x) e = refl
 taken_some (Some s) (Some x) e = refl
 
 -- the keys of all segments count as those of the one in which the operation is made
-pub counts_over : {K V : Type 0} (o : TableOp K V) (f g : Pairs K V) (k more total all : ℕ) → g (key_of o) ≡ f (key_of o) →
+pub counts_over : {K V : Type 0} (o : KeyOp K V) (f g : Pairs K V) (k more total all : ℕ) → g (key_of o) ≡ f (key_of o) →
     (is_some (f (key_of o)) ≡ true → 0 < k) → more ≡ keys_after f k o → all + k ≡ total + more → all ≡ keys_after g total o
 counts_over (op.Get key) f g k more total all same some is sum = omega (arith, is, sum)
 counts_over (op.InsertOrModify key stored) f g k more total all same some is sum =
@@ -124,7 +125,7 @@ found_counts nodes test [] e = absurd (false≢true e)
 found_counts nodes test (x ∷ xs) e = omega arith
 
 -- a call that fits has few steps left
-few_left : {K V : Type 0} (eq : K → K → Bool) (hash : K → ℕ) (m : Memory) (nodes : List (Node K V)) (first peak : ℕ) (o : TableOp K V) (n : Option ℕ) (step : Step) →
+few_left : {K V : Type 0} (eq : K → K → Bool) (hash : K → ℕ) (m : Memory) (nodes : List (Node K V)) (first peak : ℕ) (o : KeyOp K V) (n : Option ℕ) (step : Step) →
     IsShort first peak m → RunsOn eq hash m nodes o n step → left_in first peak m step ≤ most_steps first peak
 few_left eq hash m nodes first peak o n (Decided e) short runs = absurd runs
 few_left eq hash m nodes first peak o n (Going c) short runs =
@@ -197,8 +198,8 @@ module _ {K V : Type 0} (eq : K → K → Bool) (hash : K → ℕ) (respects : (
     | inr d ↦ new_elsewhere q d
   ]
 
-  moves_by : (t : TableTurn K V) → Moves eq before.operation (map_at eq p) (keys_at p) t (map_at eq new) (keys_at new) →
-      Moves eq before.operation (map_over eq hash parts) len t (map_over eq hash (set parts i new)) all
+  moves_by : (t : TableTurn K V) → MovesKey eq before.operation (map_at eq p) (keys_at p) t (map_at eq new) (keys_at new) →
+      MovesKey eq before.operation (map_over eq hash parts) len t (map_over eq hash (set parts i new)) all
   moves_by turn.Going m = (same_over m.0, (let e = m.1 in omega (arith, e, sum)))
   moves_by (turn.Decided answer) m = (
     m.0 ∙ ap answer_of (answered_same eq before.operation (map_at eq p) (map_over eq hash parts) (sym (map_here (key_of before.operation) key_here))),
@@ -273,11 +274,11 @@ module _ {K V : Type 0} (eq : K → K → Bool) (hash : K → ℕ) (respects : (
   after_here : FitsCall eq hash (memory_at new) new.nodes.items after → segment_of (length parts) after.hash ≡ i
   after_here f = ap (segment_of (length parts)) (f.hashed ∙ ap (λ o. hash (key_of o)) goes.done.operation) ∙ key_here
 
-  pub moves_after : IfOk gives (λ t. Moves eq before.operation (map_over eq hash parts) len t (map_over eq hash (set parts i new)) all)
+  pub moves_after : IfOk gives (λ t. MovesKey eq before.operation (map_over eq hash parts) len t (map_over eq hash (set parts i new)) all)
   moves_after = by gives goes.done.moves
     where
-      by : (r : Result (TableTurn K V) AllocError) → IfOk r (λ t. Moves eq before.operation (map_at eq p) (keys_at p) t (map_at eq new) (keys_at new)) →
-          IfOk r (λ t. Moves eq before.operation (map_over eq hash parts) len t (map_over eq hash (set parts i new)) all)
+      by : (r : Result (TableTurn K V) AllocError) → IfOk r (λ t. MovesKey eq before.operation (map_at eq p) (keys_at p) t (map_at eq new) (keys_at new)) →
+          IfOk r (λ t. MovesKey eq before.operation (map_over eq hash parts) len t (map_over eq hash (set parts i new)) all)
       by (Ok t) m = moves_by t m
       by (Err e) m = tt
 
@@ -293,12 +294,12 @@ module _ {K V : Type 0} (eq : K → K → Bool) (hash : K → ℕ) (respects : (
   pub nears_after : IfOk gives (λ t. t ≡ turn.Going → left_over first (set parts i new) after < left_over first parts before)
   nears_after = by gives goes.done.moves goes.done.going
     where
-      by : (r : Result (TableTurn K V) AllocError) → IfOk r (λ t. Moves eq before.operation (map_at eq p) (keys_at p) t (map_at eq new) (keys_at new)) →
+      by : (r : Result (TableTurn K V) AllocError) → IfOk r (λ t. MovesKey eq before.operation (map_at eq p) (keys_at p) t (map_at eq new) (keys_at new)) →
           IfOk r (λ t. t ≡ turn.Going → FitsCall eq hash (memory_at new) new.nodes.items after
           × (left_in first (peak_at p) (memory_at new) after.table < left_in first (peak_at p) (memory_at p) before.table)) →
           IfOk r (λ t. t ≡ turn.Going → left_over first (set parts i new) after < left_over first parts before)
       by (Ok t) m h = λ is.
-          let same = (subst (λ x. Moves eq before.operation (map_at eq p) (keys_at p) x (map_at eq new) (keys_at new)) is m).1 in
+          let same = (subst (λ x. MovesKey eq before.operation (map_at eq p) (keys_at p) x (map_at eq new) (keys_at new)) is m).1 in
           let a = left_new after (after_here (h is).0) same in
           let b = left_here before (sym at) in
           let less = (h is).1 in

@@ -1,7 +1,7 @@
 -- One step of an operation: its access, the node that it may make, and its answer.
 use Rattle.std.proofs.Common.{◌≡◌, ℕ, Bool, true, cond, List, length, Option, Some, None, IsSome, Ok, inl, inr, refl, sym, ap, subst, ◌∙◌}
 use Rattle.std.specs.Cmp.{IsEquivalence}
-use Rattle.moka_hist.specs.Tables.{answer_of, key_of}
+use Rattle.moka_hist.specs.Tables.{answer_of}
 use Rattle.moka_hist.specs.declared.tables.TableAnswer.{TableAnswer}
 use Rattle.moka_words.specs.declared.accesses.Access.{Access}
 use Rattle.moka_words.specs.declared.accesses.Seen.{Seen}
@@ -9,6 +9,7 @@ use Rattle.moka_words.specs.Effect.{Effect}
 use Rattle.moka_growth.specs.Calls.{Step, Going, Decided, access_of}
 use Rattle.moka_growth.specs.Counts.{Recounts}
 use Rattle.moka_calls.specs.Standing.{Awaits, MayWant, Wants, WantsMemory, after, is_probing}
+use Rattle.moka_buckets.specs.KeyOps.{key_of}
 use Rattle.moka_buckets.specs.declared.array.Arrays.{Arrays}
 use Rattle.moka_buckets.specs.declared.node.Node.{Node}
 use Rattle.moka_buckets.specs.declared.bucket_call.BucketCall.{BucketCall}

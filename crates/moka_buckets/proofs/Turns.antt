@@ -5,9 +5,10 @@ use Rattle.std.specs.Cmp.{IsEquivalence}
 use Rattle.std.specs.List.{slice_get}
 use Rattle.std.specs.Option.{option_map, option_map_or}
 use Rattle.std.proofs.lemmas.List.Sorted.{IsPermutation-sym, length_permutation}
-use Rattle.moka_hist.specs.Tables.{answer_of, key_of}
+use Rattle.moka_hist.specs.Tables.{answer_of}
 use Rattle.moka_hist.specs.declared.records.Stored.{Stored}
-use Rattle.moka_hist.specs.declared.tables.TableOp.{TableOp}
+use Rattle.moka_buckets.specs.KeyOps.{MovesKey, key_of}
+use Rattle.moka_buckets.specs.declared.key_op.KeyOp.{KeyOp}
 use Rattle.moka_hist.specs.declared.tables.TableAnswer.{TableAnswer}
 use Rattle.moka_hist.specs.declared.tables.TableTurn.TheVariants as turn
 use Rattle.moka_words.specs.declared.words.Word.{Word}
@@ -26,7 +27,6 @@ use Rattle.moka_growth.specs.Maps.{present_nodes, KeepsMap, ChangesMap, Finds, E
 use Rattle.moka_growth.specs.Counts.{Recounts, IsCounted}
 use Rattle.moka_growth.specs.Left.{left}
 use Rattle.moka_growth.specs.Turns.{Leads}
-use Rattle.moka_table.specs.Map.{Moves}
 use Rattle.moka_buckets.specs.declared.node.Node.{Node}
 use Rattle.moka_buckets.specs.Nodes.{hash_by, same_by, own_by, key_in, pair_at, Agrees}
 use Rattle.moka_buckets.specs.Tables.{IsNoWalk, Puts, choose, found_before, found_by, found_loaded, is_look, put_by, map_of, kind_of, IsWell, Runs, RunsOn}
@@ -67,7 +67,7 @@ answered_at_rest f d (call.Copy from a i laid) rests = refl
 answered_at_rest f d (call.Swing from a) rests = refl
 
 -- a call that rests where it comes is at no change, and lists nothing
-comes_puts : {K V : Type 0} (nodes : List (Node K V)) (o : TableOp K V) (made found : Option ℕ) (p q : Point) → Rests q → ComesTo found p q →
+comes_puts : {K V : Type 0} (nodes : List (Node K V)) (o : KeyOp K V) (made found : Option ℕ) (p q : Point) → Rests q → ComesTo found p q →
     Puts nodes o made q × IsNoWalk q
 comes_puts nodes o made found p (call.Choose a l v w) rests comes = absurd rests
 comes_puts nodes o made found p (call.Change a l v from to) rests comes = absurd comes
@@ -120,7 +120,7 @@ no_word e = cc
 
 module _ {K V : Type 0} (eq : K → K → Bool) (laws : IsEquivalence eq) (hash : K → ℕ)
     (respects : (x y : K) → eq x y ≡ true → hash x ≡ hash y) (nodes : List (Node K V)) (first peak : ℕ)
-    (o : TableOp K V) (stored : Option ℕ) (c : Call) (saw : Seen) (old new : Memory) (well : IsWell eq hash old nodes first peak)
+    (o : KeyOp K V) (stored : Option ℕ) (c : Call) (saw : Seen) (old new : Memory) (well : IsWell eq hash old nodes first peak)
     (runs : Runs eq hash old nodes o stored c)
     (effect : (keys : ℕ → Option K) → Agrees keys nodes → Effect (hash_by hash keys) (own_by eq keys (key_of o)) (access_of c) saw old new)
     (counts : Recounts (access_of c) saw old new) where
@@ -148,7 +148,7 @@ module _ {K V : Type 0} (eq : K → K → Bool) (laws : IsEquivalence eq) (hash 
   later : (keys : ℕ → Option K) → Agrees keys nodes → LaterMemory (same_by eq keys) old new
   later = later_after eq laws hash respects nodes (key_of o) c saw old new well.sound sees_of
 
-  others : (p : TableOp K V) (kept : Option ℕ) (other : Step) → RunsOn eq hash old nodes p kept other → RunsOn eq hash new nodes p kept other
+  others : (p : KeyOp K V) (kept : Option ℕ) (other : Step) → RunsOn eq hash old nodes p kept other → RunsOn eq hash new nodes p kept other
   others p kept (Decided e) r = r
   others p kept (Going d) r = record {
     kind = r.kind;
@@ -164,7 +164,7 @@ module _ {K V : Type 0} (eq : K → K → Bool) (laws : IsEquivalence eq) (hash 
   same_count : KeepsMap old new → new.len ≡ old.len
   same_count keeps = counted ∙ (length_permutation (present_nodes old) (present_nodes new) keeps ∙ sym well.counted)
 
-  kept_moves : KeepsMap old new → Moves eq o (map_of eq old nodes) old.len turn.Going (map_of eq new nodes) new.len
+  kept_moves : KeepsMap old new → MovesKey eq o (map_of eq old nodes) old.len turn.Going (map_of eq new nodes) new.len
   kept_moves keeps = (map_kept eq laws hash respects nodes old new (well_new (max peak new.len) (omega arith) (omega arith)).sound keeps, same_count keeps)
 
   abbrev f : Option ℕ → Choice
@@ -201,7 +201,7 @@ module _ {K V : Type 0} (eq : K → K → Bool) (laws : IsEquivalence eq) (hash 
   }
 
   -- an operation that decides
-  decides : (e : Ending) → Moves eq o (map_of eq old nodes) old.len (turn.Decided (answer_of (pair_at nodes answers))) (map_of eq new nodes) new.len → Result (Decided e)
+  decides : (e : Ending) → MovesKey eq o (map_of eq old nodes) old.len (turn.Decided (answer_of (pair_at nodes answers))) (map_of eq new nodes) new.len → Result (Decided e)
   decides e moves = record { well = well_new; moves = moves; going = λ e. absurd (is_going e); others = others; later = later }
 
   sound_new : Sound eq laws hash respects nodes new
@@ -401,7 +401,7 @@ module _ {K V : Type 0} (eq : K → K → Bool) (laws : IsEquivalence eq) (hash 
 
 -- One step of an operation: an access, and with a question also its answer.
 pub turned : {K V : Type 0} (eq : K → K → Bool) → IsEquivalence eq → (hash : K → ℕ) → ((x y : K) → eq x y ≡ true → hash x ≡ hash y) →
-    (nodes : List (Node K V)) (first peak : ℕ) (o : TableOp K V) (stored : Option ℕ) (c : Call) (saw : Seen) (old new : Memory) →
+    (nodes : List (Node K V)) (first peak : ℕ) (o : KeyOp K V) (stored : Option ℕ) (c : Call) (saw : Seen) (old new : Memory) →
     IsWell eq hash old nodes first peak → Runs eq hash old nodes o stored c → ((present : Option ℕ) → asked (next_of c saw) ≡ Some present → puts_at o present ≡ true → IsSome stored) →
     ((keys : ℕ → Option K) → Agrees keys nodes → Effect (hash_by hash keys) (own_by eq keys (key_of o)) (access_of c) saw old new) →
     Recounts (access_of c) saw old new → (after : Step) → after ≡ answered (choose nodes o stored) (next_of c saw) →

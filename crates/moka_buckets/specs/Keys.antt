@@ -1,8 +1,9 @@
 -- Calls that list the keys of a segment, among all segments of a table.
-use Rattle.std.specs.Prelude.{◌≡◌, ◌⊎◌, ◌↔◌, ℕ, ◌<◌, ◌≤◌, Bool, true, false, List, [], length, Some, IsSome, Result, Ok, IfOk, OnErr}
+use Rattle.std.specs.Prelude.{◌≡◌, ◌⊎◌, ◌↔◌, ℕ, ◌<◌, ◌≤◌, Bool, true, false, List, [], length, Option, None, Some, IsSome, Result, Ok, IfOk, OnErr}
 use Rattle.std.specs.Option.{option_map_or, option_to_list}
 use Rattle.std.specs.List.{slice_get, flat_map}
 use Rattle.std.specs.declared.alloc.AllocError.{AllocError}
+use Rattle.moka_words.specs.declared.words.Word.{Word}
 use Rattle.moka_growth.specs.declared.kinds.CallKind.TheVariants as kind
 use Rattle.moka_growth.specs.Calls.{Step, Going, Decided, Nodes, call_from}
 use Rattle.moka_calls.specs.Standing.{IsGoing}
@@ -14,7 +15,7 @@ use Rattle.moka_buckets.specs.declared.keys_call.KeysCall.{KeysCall}
 use Rattle.moka_buckets.specs.Arrays.{ArePlaced}
 use Rattle.moka_buckets.specs.Nodes.{key_in}
 use Rattle.moka_buckets.specs.Tables.{left_in}
-use Rattle.moka_buckets.specs.Walks.{is_ended, listed_by, Covers, Lead, WalksOn}
+use Rattle.moka_buckets.specs.Walks.{carried, is_ended, listed_by, node_next, word_next, Covers, Lead, WalksOn}
 use Rattle.moka_buckets.specs.Parts.{map_over, memory_at, peak_at, segment_of, AreParts, FitsParts}
 
 module _ {K V : Type 0} where
@@ -59,6 +60,15 @@ module _ {K V : Type 0} where
   left_keys first parts c = option_map_or (λ p. left_in first (peak_at p) (memory_at p) c.table)
       (slice_get parts c.segment) 0
 
+  -- the nodes of a segment; none where it isn't there
+  abbrev pub nodes_of : List (Part K V) → (segment : ℕ) → List (Node K V)
+  nodes_of parts segment = option_map_or (λ p. p.nodes.items) (slice_get parts segment) []
+
+  -- the word that it lists next, where it lists one
+  abbrev pub word_over : List (Part K V) → KeysCall → Option Word
+  word_over parts c =
+      option_map_or (λ p. word_next (memory_at p) c.table) (slice_get parts c.segment) None
+
   -- what a step of a call may rest on
   pub record CanList (eq : K → K → Bool) (hash : K → ℕ) (parts : List (Part K V))
       (first most len : ℕ) (c : KeysCall) : Type 0 where
@@ -97,11 +107,10 @@ module _ {K V : Type 0} where
         → IsSome (map_over eq hash old key) → CoversIt eq old before key → CoversIt eq new after key)
     pub others : (c : BucketCall K V) → FitsParts eq hash old c → FitsParts eq hash new c
     pub keys : KeepsKeys eq hash old new
+    pub adds : IfOk gives (λ done. listed_by after.table ≡ carried (listed_by before.table)
+        (word_over old before) (node_next (word_over old before)))
+    pub nodes : (i : ℕ) → nodes_of new i ≡ nodes_of old i
     pub err : OnErr gives ((after ≡ before) × (left_keys first new after ≡ left_keys first old before))
-
-  -- the nodes of a segment; none where it isn't there
-  abbrev pub nodes_of : List (Part K V) → (segment : ℕ) → List (Node K V)
-  nodes_of parts segment = option_map_or (λ p. p.nodes.items) (slice_get parts segment) []
 
   -- the keys of these nodes, in their order
   abbrev pub keys_in : List (Node K V) → List ℕ → List K

@@ -1,3 +1,4 @@
+pub mod KeyOps
 pub mod Nodes
 pub mod Arrays
 pub mod Making
@@ -15,3 +16,4 @@ pub mod Listed
 pub mod Walks
 pub mod Keys
 pub mod Asking
+pub mod Ops

@@ -7,7 +7,8 @@ use Rattle.moka_hist.specs.declared.records.Stored.{Stored}
 use Rattle.moka_hist.specs.declared.tables.TableTurn.{TableTurn}
 use Rattle.moka_words.specs.Effect.{Memory, root, words_of}
 use Rattle.moka_hist.specs.declared.tables.TableTurn.TheVariants as turn
-use Rattle.moka_table.specs.Map.{Pairs, Moves, SameMap}
+use Rattle.moka_table.specs.Map.{Pairs, SameMap}
+use Rattle.moka_buckets.specs.KeyOps.{MovesKey}
 use Rattle.moka_buckets.specs.declared.node.Node.{Node}
 use Rattle.moka_buckets.specs.declared.part.Part.{Part}
 use Rattle.moka_buckets.specs.declared.bucket_call.BucketCall.{BucketCall}
@@ -101,7 +102,7 @@ module _ {K V : Type 0} where
       (after : BucketCall K V) : Type 0 where
     pub well : AreParts eq hash new first (max most all) all
     pub operation : after.operation ≡ before.operation
-    pub moves : IfOk gives (λ t. Moves eq before.operation (map_over eq hash old) len t
+    pub moves : IfOk gives (λ t. MovesKey eq before.operation (map_over eq hash old) len t
         (map_over eq hash new) all)
     pub undecided : IfOk gives (λ t. t ≡ turn.Going → FitsParts eq hash new after)
     pub nears : IfOk gives (λ t. t ≡ turn.Going → left_over first new after < left_over first old before)

@@ -1,8 +1,8 @@
 -- Where an operation puts its pair: for which load its node is made, and what a step leaves of the nodes.
 use Rattle.std.specs.Prelude.{◌≡◌, ◌⊎◌, ℕ, Bool, true, false, cond, List, [], ◌∷◌, ◌++◌, length, Option, Some, None, is_some, is_none, if◌then◌else◌}
 use Rattle.std.specs.Option.{option_map, option_map_or}
-use Rattle.moka_hist.specs.declared.tables.TableOp.{TableOp}
-use Rattle.moka_hist.specs.declared.tables.TableOp.TheVariants as op
+use Rattle.moka_buckets.specs.declared.key_op.KeyOp.{KeyOp}
+use Rattle.moka_buckets.specs.declared.key_op.KeyOp.TheVariants as op
 use Rattle.moka_words.specs.declared.words.Word.{Word}
 use Rattle.moka_words.specs.declared.words.Word.TheVariants.{Unset, Empty, Live, Tomb, SealedEmpty, SealedLive, SealedTomb}
 use Rattle.moka_words.specs.declared.accesses.Access.TheVariants as access
@@ -36,14 +36,14 @@ WillPut (Decided e) n = ⊥
 
 module _ {K V : Type 0} where
   -- the operation puts its pair where this node is present under its key
-  abbrev pub puts_at : TableOp K V → (present : Option ℕ) → Bool
+  abbrev pub puts_at : KeyOp K V → (present : Option ℕ) → Bool
   puts_at (op.Get key) present = false
   puts_at (op.InsertOrModify key stored) present = true
   puts_at (op.InsertIfAbsent key stored) present = is_none present
   puts_at (op.RemoveIf key stamp) present = false
 
   -- the same of the node of which it asks, if it asks
-  abbrev pub puts_if : TableOp K V → (present : Option (Option ℕ)) → Bool
+  abbrev pub puts_if : KeyOp K V → (present : Option (Option ℕ)) → Bool
   puts_if o present = option_map_or (puts_at o) present false
 
   -- a node of the pair that the call stores

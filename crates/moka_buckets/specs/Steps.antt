@@ -1,8 +1,8 @@
 -- What one step of an operation does to a table.
 use Rattle.std.specs.Prelude.{◌≡◌, ◌⊎◌, ℕ, ◌<◌, ◌≤◌, Bool, true, false, List, [], ◌∷◌, ◌++◌, length, Option, Some, None, Result, IfOk, OnErr}
 use Rattle.std.specs.List.{slice_get}
-use Rattle.moka_hist.specs.Tables.{key_of}
-use Rattle.moka_hist.specs.declared.tables.TableOp.{TableOp}
+use Rattle.moka_buckets.specs.KeyOps.{MovesKey, key_of}
+use Rattle.moka_buckets.specs.declared.key_op.KeyOp.{KeyOp}
 use Rattle.moka_hist.specs.declared.tables.TableAnswer.{TableAnswer}
 use Rattle.moka_hist.specs.declared.tables.TableTurn.{TableTurn}
 use Rattle.moka_hist.specs.declared.tables.TableTurn.TheVariants as turn
@@ -12,7 +12,7 @@ use Rattle.moka_words.specs.Effect.{Memory, LaterMemory}
 use Rattle.moka_growth.specs.Calls.{Point, Call, Step, Going, Decided, chosen}
 use Rattle.moka_growth.specs.Calls as call
 use Rattle.std.specs.declared.alloc.AllocError.{AllocError}
-use Rattle.moka_table.specs.Map.{Moves, SameMap}
+use Rattle.moka_table.specs.Map.{SameMap}
 use Rattle.moka_buckets.specs.declared.node.Node.{Node}
 use Rattle.moka_buckets.specs.declared.bucket_call.BucketCall.{BucketCall}
 use Rattle.moka_buckets.specs.Nodes.{same_by, Agrees}
@@ -67,13 +67,13 @@ module _ {K V : Type 0} where
 
   -- The step stays undecided, or decides by the map; the table stays well, and all other calls fit.
   pub record Turned (eq : K → K → Bool) (hash : K → ℕ) (nodes : List (Node K V)) (first peak : ℕ)
-      (o : TableOp K V) (stored : Option ℕ)
+      (o : KeyOp K V) (stored : Option ℕ)
       (old : Memory) (before : Step) (gives : TableTurn K V) (new : Memory) (after : Step) : Type 0 where
     pub well : (more : ℕ) → peak ≤ more → new.len ≤ more → IsWell eq hash new nodes first more
-    pub moves : Moves eq o (map_of eq old nodes) old.len gives (map_of eq new nodes) new.len
+    pub moves : MovesKey eq o (map_of eq old nodes) old.len gives (map_of eq new nodes) new.len
     pub going : gives ≡ turn.Going → RunsOn eq hash new nodes o stored after ×
         (left_in first peak new after < left_in first peak old before)
-    pub others : (p : TableOp K V) (kept : Option ℕ) (other : Step) →
+    pub others : (p : KeyOp K V) (kept : Option ℕ) (other : Step) →
         RunsOn eq hash old nodes p kept other → RunsOn eq hash new nodes p kept other
     pub later : (keys : ℕ → Option K) → Agrees keys nodes → LaterMemory (same_by eq keys) old new
 
@@ -93,7 +93,7 @@ module _ {K V : Type 0} where
       (after : BucketCall K V) : Type 0 where
     pub well : (more : ℕ) → peak ≤ more → new.len ≤ more → IsWell eq hash new more_nodes first more
     pub operation : after.operation ≡ before.operation
-    pub moves : IfOk gives (λ t. Moves eq before.operation (map_of eq old nodes) old.len t
+    pub moves : IfOk gives (λ t. MovesKey eq before.operation (map_of eq old nodes) old.len t
         (map_of eq new more_nodes) new.len)
     pub going : IfOk gives (λ t. t ≡ turn.Going
         → FitsCall eq hash new more_nodes after ×

@@ -2,10 +2,11 @@
 use Rattle.std.specs.Prelude.{◌≡◌, ℕ, Bool, true, false, cond, List, Option, Some, None, IsSome, is_some, if◌then◌else◌}
 use Rattle.std.specs.Option.{option_map}
 use Rattle.std.specs.List.{find}
-use Rattle.moka_hist.specs.Tables.{key_of, taken_by}
+use Rattle.moka_hist.specs.Tables.{taken_by}
 use Rattle.moka_hist.specs.declared.records.Stored.{Stored}
-use Rattle.moka_hist.specs.declared.tables.TableOp.{TableOp}
-use Rattle.moka_hist.specs.declared.tables.TableOp.TheVariants as op
+use Rattle.moka_buckets.specs.KeyOps.{key_of}
+use Rattle.moka_buckets.specs.declared.key_op.KeyOp.{KeyOp}
+use Rattle.moka_buckets.specs.declared.key_op.KeyOp.TheVariants as op
 use Rattle.moka_words.specs.declared.words.Word.{Word}
 use Rattle.moka_words.specs.declared.words.Word.TheVariants.{Unset, Empty, Live, Tomb, SealedEmpty, SealedLive, SealedTomb}
 use Rattle.moka_words.specs.declared.accesses.Access.{Access}
@@ -85,28 +86,28 @@ module _ {K V : Type 0} where
     pub counted : IsCounted m
     pub short : IsShort first peak m
 
-  abbrev pub kind_of : TableOp K V → CallKind
+  abbrev pub kind_of : KeyOp K V → CallKind
   kind_of (op.Get key) = kind.Get
   kind_of (op.InsertOrModify key stored) = kind.Insert
   kind_of (op.InsertIfAbsent key stored) = kind.Insert
   kind_of (op.RemoveIf key stamp) = kind.Remove
 
   -- the pair that the operation stores
-  abbrev pub stored_by : TableOp K V → Option (K × Stored V)
+  abbrev pub stored_by : KeyOp K V → Option (K × Stored V)
   stored_by (op.Get key) = None
   stored_by (op.InsertOrModify key stored) = Some (key, stored)
   stored_by (op.InsertIfAbsent key stored) = Some (key, stored)
   stored_by (op.RemoveIf key stamp) = None
 
   -- the operation answers the pair that it leaves
-  abbrev pub is_look : TableOp K V → Bool
+  abbrev pub is_look : KeyOp K V → Bool
   is_look (op.Get key) = true
   is_look (op.InsertOrModify key stored) = false
   is_look (op.InsertIfAbsent key stored) = true
   is_look (op.RemoveIf key stamp) = false
 
   -- What is to be done where this node is present under the key: `made` has the pair to be stored.
-  abbrev pub choose : List (Node K V) → TableOp K V → (made present : Option ℕ) → Choice
+  abbrev pub choose : List (Node K V) → KeyOp K V → (made present : Option ℕ) → Choice
   choose nodes (op.Get key) made present = choice.Keep
   choose nodes (op.InsertOrModify key stored) made present = put_of made
   choose nodes (op.InsertIfAbsent key stored) made present =
@@ -115,14 +116,14 @@ module _ {K V : Type 0} where
       cond (is_some (taken_by stamp (pair_at nodes present))) choice.Remove choice.Keep
 
   -- the node whose pair the operation answers, if it ends by this access
-  abbrev pub found_by : TableOp K V → (own : ℕ → Bool) → Memory → Access → Option ℕ
+  abbrev pub found_by : KeyOp K V → (own : ℕ → Bool) → Memory → Access → Option ℕ
   found_by o own m (access.LoadWord array index) =
       cond (is_look o) (found_at own (word_at (m.words array) index)) None
   found_by o own m (access.Exchange array index from to) = found_before from to
   found_by o own m a = None
 
   -- a change is what the operation chose
-  abbrev pub Puts : List (Node K V) → TableOp K V → (made : Option ℕ) → Point → Type 0
+  abbrev pub Puts : List (Node K V) → KeyOp K V → (made : Option ℕ) → Point → Type 0
   Puts nodes o made (call.Change array size passed from to) =
       put_by (choose nodes o made (stored_in from)) from ≡ Some to
   Puts nodes o made p = Unit {0}
@@ -134,7 +135,7 @@ module _ {K V : Type 0} where
 
   -- a call for this operation goes on; `node` has the pair to be stored, once it was named
   pub record Runs (eq : K → K → Bool) (hash : K → ℕ) (m : Memory) (nodes : List (Node K V))
-      (o : TableOp K V) (node : Option ℕ) (c : Call) :
+      (o : KeyOp K V) (node : Option ℕ) (c : Call) :
       Type 0 where
     pub kind : c.kind ≡ kind_of o
     pub hashed : c.hash ≡ hash (key_of o)
@@ -144,7 +145,7 @@ module _ {K V : Type 0} where
     pub puts : Puts nodes o node c.point
     pub filled : (n : ℕ) → node ≡ Some n → IsSome (stored_by o) × (pair_at nodes (Some n) ≡ stored_by o)
 
-  abbrev pub RunsOn : (K → K → Bool) → (K → ℕ) → Memory → List (Node K V) → TableOp K V →
+  abbrev pub RunsOn : (K → K → Bool) → (K → ℕ) → Memory → List (Node K V) → KeyOp K V →
       (node : Option ℕ) → Step → Type 0
   RunsOn eq hash m nodes o stored (Going c) = Runs eq hash m nodes o stored c
   RunsOn eq hash m nodes o stored (Decided e) = ⊥

@@ -5,18 +5,19 @@ use Rattle.std.specs.Hash.{HashWrites}
 use Rattle.std.specs.List.{sum_by}
 use Rattle.std.specs.declared.hash.Hasher as hasher
 use Rattle.std.specs.declared.hash.BuildHasher as builder
-use Rattle.moka_hist.specs.declared.tables.TableOp.{TableOp}
-use Rattle.moka_hist.specs.Tables.{key_of}
+use Rattle.moka_buckets.specs.KeyOps.{key_of}
+use Rattle.moka_buckets.specs.declared.key_op.KeyOp.{KeyOp}
 use Rattle.moka_words.specs.declared.accesses.Access.{Access}
+use Rattle.moka_words.specs.declared.words.Word.{Word}
 use Rattle.moka_words.specs.Effect.{root, words_of}
 use Rattle.moka_table.specs.Map.{Pairs}
-use Rattle.moka_table.specs.declared.table.Table as Table
 use Rattle.moka_buckets.specs.declared.part.Part.{Part}
 use Rattle.moka_buckets.specs.declared.bucket_call.BucketCall.{BucketCall}
 use Rattle.moka_buckets.specs.Accesses.{wanted_by}
+use Rattle.moka_buckets.specs.Walks.{listed_by}
 use Rattle.moka_buckets.specs.Hashing.{hash_in}
 use Rattle.moka_buckets.specs.declared.keys_call.KeysCall.{KeysCall}
-use Rattle.moka_buckets.specs.Keys.{FitsKeys, ListsIt, CoversIt, left_keys}
+use Rattle.moka_buckets.specs.Keys.{FitsKeys, ListsIt, CoversIt, keys_in, left_keys, nodes_of, word_over}
 use Rattle.moka_buckets.specs.Parts.{memory_at, map_over, segment_of, FitsParts, left_over}
 
 -- segments, the hasher, how long the first arrays were, the most keys before the last step, and how
@@ -36,12 +37,16 @@ want_of c = wanted_by c.table
 abbrev pub keys_want_of : KeysCall → Option Access
 keys_want_of c = wanted_by c.table
 
+-- the nodes that it has listed so far, or in all
+abbrev pub listed_of : KeysCall → List ℕ
+listed_of c = listed_by c.table
+
 -- the key that the call is for
 abbrev pub key_for : {K V : Type 0} → BucketCall K V → Option K
 key_for c = Some (key_of c.operation)
 
 -- what the call was begun for
-abbrev pub operation_of : {K V : Type 0} → BucketCall K V → Option (TableOp K V)
+abbrev pub operation_of : {K V : Type 0} → BucketCall K V → Option (KeyOp K V)
 operation_of c = Some c.operation
 
 -- How long the first array of each of so many segments is at this capacity: none without one.
@@ -75,6 +80,14 @@ module _ {K V S : Type 0} where
   abbrev pub covers_in : (K → K → Bool) → Buckets K V S → KeysCall → K → Type 0
   covers_in eq t c key = CoversIt eq t.parts c key
 
+  -- the keys of the nodes that it has listed, in their order
+  abbrev pub keys_listed : Buckets K V S → KeysCall → List K
+  keys_listed t c = keys_in (nodes_of t.parts c.segment) (listed_of c)
+
+  -- the word that it lists next, where it lists one
+  abbrev pub word_of : Buckets K V S → KeysCall → Option Word
+  word_of t c = word_over t.parts c
+
   abbrev pub left_keys_of : Buckets K V S → KeysCall → ℕ
   left_keys_of t c = left_keys (first_of t) t.parts c
 
@@ -102,16 +115,3 @@ module _ {K V S : Type 0} where
     -- the segment of a key
     abbrev pub segment_for : Buckets K V S → K → ℕ
     segment_for t key = segment_of (length t.parts) (hash_in b h input t.hasher key)
-
-    -- what contracts see of a table of buckets
-    abbrev pub bucket_table : Table.Ghosts (Buckets K V S) K V (BucketCall K V)
-    bucket_table =
-        record {
-          map = map_in;
-          count = count_of;
-          peak = peak_of;
-          first = first_of;
-          operation_of = operation_of;
-          fits = fits_in;
-          left = left_of;
-        }

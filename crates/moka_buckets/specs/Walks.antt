@@ -1,6 +1,9 @@
 -- What a call knows that lists the keys of a segment, and what it has listed.
-use Rattle.std.specs.Prelude.{◌≡◌, ◌⊎◌, ℕ, ◌<◌, ◌≤◌, Bool, true, false, List, [], length, Option, Some, IsSome}
+use Rattle.std.specs.Prelude.{◌≡◌, ◌⊎◌, ℕ, ◌<◌, ◌≤◌, ◌++◌, Bool, true, false, List, [], length, Option, None, Some, IsSome, if◌then◌else◌}
 use Rattle.std.specs.List.{slice_get}
+use Rattle.std.specs.Option.{option_map, option_to_list}
+use Rattle.moka_words.specs.declared.words.Word.{Word}
+use Rattle.moka_words.specs.Words.{is_sealed, stored_in, word_at}
 use Rattle.moka_words.specs.Effect.{Memory, LaterMemory, array_at}
 use Rattle.moka_growth.specs.declared.kinds.CallKind.TheVariants as kind
 use Rattle.moka_growth.specs.Calls.{Point, Call, Ending, Step, Going, Decided}
@@ -8,7 +11,7 @@ use Rattle.moka_growth.specs.Calls as call
 use Rattle.moka_growth.specs.Fits.{Fits}
 use Rattle.moka_growth.specs.Left.{left}
 use Rattle.moka_growth.specs.Listing.{listed, Differ, Lists, HasListed, ListsKey}
-use Rattle.moka_calls.specs.Standing.{IsGoing}
+use Rattle.moka_calls.specs.Standing.{IsGoing, listed_next}
 use Rattle.moka_buckets.specs.declared.node.Node.{Node}
 use Rattle.moka_buckets.specs.Nodes.{hash_by, same_by, own_by, key_in, Agrees}
 use Rattle.moka_buckets.specs.Tables.{map_of, left_in, IsWell}
@@ -38,6 +41,20 @@ listed_by (Decided e) = listed_in e
 abbrev pub is_ended : Step → Bool
 is_ended (Going c) = false
 is_ended (Decided e) = true
+
+-- the word that the call lists next, where it lists one, and the node stored there
+abbrev pub word_next : Memory → Step → Option Word
+word_next m s = option_map {U = Word} (λ place. word_at (m.words place.0) place.1) (listed_next s)
+
+abbrev pub node_next : Option Word → List ℕ
+node_next None = []
+node_next (Some w) = option_to_list (stored_in w)
+
+-- A list after a step: a word that is listed adds what it stores, and a sealed one drops the list;
+-- without such a word there is none.
+abbrev pub carried : {A : Type 0} → List A → Option Word → (more : List A) → List A
+carried xs None more = []
+carried xs (Some w) more = if is_sealed w then [] else xs ++ more
 
 -- it is nearer to its end, if it goes on
 abbrev pub Falls : (first peak : ℕ) → (old : Memory) → Step → (new : Memory) → Step → Type 0
@@ -107,6 +124,8 @@ module _ {K V : Type 0} where
     pub covers : (key : K) → IsSome (map_of eq old nodes key) → Covers eq old nodes key before →
         Covers eq new nodes key after
     pub later : (keys : ℕ → Option K) → Agrees keys nodes → LaterMemory (same_by eq keys) old new
+    pub adds : listed_by after
+        ≡ carried (listed_by before) (word_next old before) (node_next (word_next old before))
 
   -- what a step of the call may rest on
   pub record CanWalk (eq : K → K → Bool) (hash : K → ℕ) (m : Memory) (nodes : List (Node K V))

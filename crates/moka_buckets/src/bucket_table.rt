@@ -1,29 +1,40 @@
 //! The table of buckets.
 
-ghost use Rattle.std.specs.Prelude.{List, ◌≡◌, ◌≢◌, ◌⊎◌, ◌↔◌, ℕ, true, false, is_some, IsSome, ◌+◌, ◌*◌, ◌-◌, ◌^◌, ◌<◌, ◌≤◌, max, min, length, Ok, OnErr, IfOk, Some, None};
+ghost use Rattle.std.specs.Prelude.{List, ◌≡◌, ◌≢◌, ◌⊎◌, ◌↔◌, ℕ, true, false, is_some, IsSome, ◌+◌, ◌*◌, ◌-◌, ◌^◌, ◌<◌, ◌≤◌, if◌then◌else◌, max, min, length, Ok, OnErr, IfOk, Some, None};
+ghost use Rattle.moka_buckets.specs.KeyOps.{MovesKey, key_of};
 ghost use Rattle.std.proofs.Common.{arith};
-ghost use Rattle.moka_hist.specs.declared.tables.TableOp.{TableOp};
+ghost use Rattle.moka_buckets.specs.declared.key_op.KeyOp.{KeyOp};
 ghost use Rattle.moka_hist.specs.declared.tables.TableTurn.{TableTurn};
-ghost use Rattle.moka_table.specs.Map.{SameMap, Moves, ListsPairs, most_steps};
+ghost use Rattle.moka_hist.specs.declared.tables.TableOp.{TableOp};
+ghost use Rattle.moka_hist.specs.declared.tables.TableAnswer.TheVariants as found;
+ghost use Rattle.moka_table.specs.Map.{GoesOnListing, IsList, ListsPairs, Moves, SameMap, longest, most_steps};
 
 use crate::bucket_call::BucketCall;
 use crate::building::{first_length, new_parts};
 use crate::calling::{key_of, kind_of};
 use crate::compacting::compact_parts;
+use crate::copying::{follow, give, make_room, next_key, next_word};
+use crate::key_op::KeyOp;
 use crate::keys_call::KeysCall;
+use crate::list_call::ListCall;
 use crate::listing::list_parts;
 use crate::looking::find_over;
+use crate::op_call::OpCall;
 use crate::part::{Part, step_parts};
-use crate::part_keys::{copy_keys, list_keys};
-use crate::walking::{listed_keys, walk_parts};
+use crate::part_keys::{copy_all, copy_keys, list_keys};
+use crate::walking::{listed_keys, nodes_of, walk_parts};
 use moka_calls::TableCall;
 use moka_growth::CallKind;
-use moka_hist::{Stored, TableOp, TableTurn};
+use moka_hist::{KeyList, Stored, TableAnswer, TableOp, TableTurn};
 use moka_table::{EntryList, Table};
 use moka_values::Exact;
+use moka_words::Word;
 use std::alloc::{AllocError, Global};
 use std::hash::{BuildHasher, Hash};
 use std::marker::Model;
+
+/// A table of more segments is one part; else each segment is one.
+const MOST_PARTS: usize = 64;
 
 /// A table whose keys are spread over segments by their hashes, and whose arrays grow word by word
 /// while its operations run.
@@ -66,7 +77,8 @@ impl<K: Eq + Hash + Drop, V: Drop, S: BuildHasher + Drop> BucketTable<K, V, S> {
     ghost use Rattle.std.specs.Option.{IfSome, option_map};
     ghost use Rattle.moka_buckets.specs.Hashing.{hash_in};
     ghost use Rattle.moka_buckets.specs.Asking.{Asks, ListsCalls, ListsSegment};
-    ghost use Rattle.moka_buckets.specs.Views.{IsFirst, bucket_table, capacity_in, count_of, first_of, map_in, peak_of, segment_for, words_in};
+    ghost use Rattle.moka_buckets.specs.Ops.{bucket_table};
+    ghost use Rattle.moka_buckets.specs.Views.{IsFirst, capacity_in, count_of, first_of, map_in, peak_of, segment_for, words_in};
 
     /// A table without keys, of so many segments, rounded up to a power of two. For a capacity each
     /// of them has an array; without one none has. Keys are hashed by this.
@@ -183,16 +195,16 @@ impl<K: Eq + Hash + Drop, V: Drop, S: BuildHasher + Drop> BucketTable<K, V, S> {
 
 impl<K: Eq + Hash + Exact, V: Exact, S: BuildHasher + Drop> BucketTable<K, V, S> {
     ghost use Rattle.std.specs.List.{slice_get};
-    ghost use Rattle.moka_hist.specs.Tables.{key_of};
     ghost use Rattle.moka_buckets.specs.Compacting.{AllCompact};
     ghost use Rattle.std.specs.Option.{IfSome, option_map};
     ghost use Rattle.moka_buckets.specs.Asking.{ListsSegment};
     ghost use Rattle.moka_calls.specs.Standing.{IsGoing};
-    ghost use Rattle.moka_buckets.specs.Keys.{IsListing};
+    ghost use Rattle.moka_buckets.specs.Keys.{IsListing, nodes_of};
     ghost use Rattle.moka_buckets.specs.Accesses.{MovesOnce};
     ghost use Rattle.moka_buckets.specs.Hashing.{hash_in};
-    ghost use Rattle.moka_buckets.specs.Views.{count_of, covers_in, first_of, fits_in, fits_keys_in, keys_want_of, left_keys_of, left_of, lists_in, map_in, operation_of, peak_of, segment_for};
-    ghost use Rattle.moka_buckets.specs.Walks.{is_ended};
+    ghost use Rattle.moka_buckets.specs.Views.{count_of, covers_in, first_of, fits_in, fits_keys_in, keys_listed, keys_want_of, left_keys_of, left_of, listed_of, lists_in, map_in, operation_of, peak_of, segment_for, word_of};
+    ghost use Rattle.moka_buckets.specs.Walks.{carried, is_ended, node_next};
+    ghost use Rattle.std.specs.Prelude.{[]};
     ghost use Rattle.moka_buckets.specs.declared.bucket_call.BucketCall.{BucketCall};
     ghost use Rattle.moka_buckets.specs.declared.keys_call.KeysCall.{KeysCall};
 
@@ -212,7 +224,7 @@ impl<K: Eq + Hash + Exact, V: Exact, S: BuildHasher + Drop> BucketTable<K, V, S>
     }
 
     /// Begins an operation, on a key with this hash. It takes no memory.
-    pub fn begin_at(&self, hash: u64, operation: TableOp<K, V>) -> BucketCall<K, V>
+    pub fn begin_at(&self, hash: u64, operation: KeyOp<K, V>) -> BucketCall<K, V>
         requires hashed { hash ≡ hash_in S.BuildHasher S.Hasher.Hasher K.hash_input
             self.now.hasher (key_of operation) }
         ensures operation { operation_of result ≡ Some operation }
@@ -227,6 +239,17 @@ impl<K: Eq + Hash + Exact, V: Exact, S: BuildHasher + Drop> BucketTable<K, V, S>
             node: None,
             operation,
         }
+    }
+
+    /// Begins an operation on a key. It takes no memory.
+    pub fn begin_key(&self, operation: KeyOp<K, V>) -> BucketCall<K, V>
+        ensures operation { operation_of result ≡ Some operation }
+        ensures fits { fits_in S.BuildHasher S.Hasher.Hasher K.eq K.hash_input
+            self.now result }
+        ensures left { left_of self.now result
+            ≤ most_steps (first_of self.now) (peak_of self.now) }
+    {
+        self.begin_at(self.hash(key_of(&operation)), operation)
     }
 
     /// Puts the keys of each segment, half-grown or not, into one array that is as short as they
@@ -257,6 +280,7 @@ impl<K: Eq + Hash + Exact, V: Exact, S: BuildHasher + Drop> BucketTable<K, V, S>
             self.now result }
         ensures going { IsGoing result.table }
         // It has listed no key, and has yet to come to each.
+        ensures listed { listed_of result ≡ [] }
         ensures none { (key : K) → lists_in self.now result key → ⊥ }
         ensures covers { segment < length self.now.parts
             → (key : K) → covers_in K.eq self.now result key }
@@ -326,6 +350,18 @@ impl<K: Eq + Hash + Exact, V: Exact, S: BuildHasher + Drop> BucketTable<K, V, S>
             ≡ other.segment
             → IsSome (map_in S.BuildHasher S.Hasher.Hasher K.eq K.hash_input self.old key)
             → covers_in K.eq self.old other key → covers_in K.eq self.new other key }
+        // No node is made.
+        ensures nodes { (i : ℕ) → nodes_of self.new.parts i ≡ nodes_of self.old.parts i }
+        // The list after it; what it has listed is of the segment, and at its end it is the list.
+        ensures adds { IfOk result (λ done. listed_of call.new ≡ carried (listed_of call.old)
+            (word_of self.old call.old) (node_next (word_of self.old call.old))) }
+        ensures own { (key : K) → lists_in self.new call.new key
+            → segment_for S.BuildHasher S.Hasher.Hasher K.eq K.hash_input self.new key
+            ≡ call.new.segment }
+        ensures listing { IfOk result (λ done. done ≡ true
+            → IsListing K.eq self.new.parts call.new (keys_listed self.new call.new)) }
+        ensures few { IfOk result (λ done. done ≡ true → length (keys_listed self.new call.new)
+            ≤ first_of self.new + 3 * peak_of self.new) }
         ensures err { OnErr result ((call.new ≡ call.old)
             × (left_keys_of self.new call.new ≡ left_keys_of self.old call.old)) }
     {
@@ -354,56 +390,29 @@ impl<K: Eq + Hash + Exact, V: Exact, S: BuildHasher + Drop> BucketTable<K, V, S>
     }
 }
 
-impl<K: Eq + Hash + Exact, V: Exact, S: BuildHasher + Drop> Table<K, V> for BucketTable<K, V, S> {
-    type Call = BucketCall<K, V>;
-
+impl<K: Eq + Hash + Exact, V: Exact, S: BuildHasher + Drop> BucketTable<K, V, S> {
     ghost use Rattle.moka_buckets.specs.Accesses.{MovesOnce, StaysThere};
     ghost use Rattle.moka_buckets.specs.Hashing.{hash_in};
     ghost use Rattle.moka_buckets.specs.Views.{count_of, covers_in, first_of, fits_in, fits_keys_in, key_for, left_keys_of, left_of, lists_in, map_in, operation_of, peak_of, segment_for, segment_in, want_of};
     ghost use Rattle.moka_buckets.specs.declared.keys_call.KeysCall.{KeysCall};
     ghost use Rattle.moka_buckets.specs.declared.bucket_call.BucketCall.{BucketCall};
 
-    ghost map = { λ t. map_in S.BuildHasher S.Hasher.Hasher K.eq K.hash_input t };
-
-    ghost count = { λ t. count_of t };
-
-    ghost peak = { λ t. peak_of t };
-
-    ghost first = { λ t. first_of t };
-
-    ghost operation_of = { λ c. operation_of c };
-
-    ghost fits = { λ t c. fits_in S.BuildHasher S.Hasher.Hasher K.eq K.hash_input t c };
-
-    ghost left = { λ t c. left_of t c };
-
-    ghost peak_holds = { λ t. Prim.omega arith };
-
-    ghost first_holds = { λ t. Prim.omega arith };
-
-    fn segments(&self) -> usize
+    /// How many segments the keys are spread over.
+    pub fn segments(&self) -> usize
         ensures some { 0 < result }
         ensures is { result ≡ length self.now.parts }
     {
         self.parts.len()
     }
 
-    fn begin(&self, operation: TableOp<K, V>) -> BucketCall<K, V>
-        ensures operation { operation_of result ≡ Some operation }
-        ensures fits { fits_in S.BuildHasher S.Hasher.Hasher K.eq K.hash_input
-            self.now result }
-        ensures left { left_of self.now result
-            ≤ most_steps (first_of self.now) (peak_of self.now) }
-    {
-        self.begin_at(self.hash(key_of(&operation)), operation)
-    }
-
-    fn step(&mut self, call: &mut BucketCall<K, V>) -> Result<TableTurn<K, V>, AllocError>
+    /// Makes one step of an operation on a key. After want of memory the map and all calls are as
+    /// before.
+    pub fn step_key(&mut self, call: &mut BucketCall<K, V>) -> Result<TableTurn<K, V>, AllocError>
         requires fits { fits_in S.BuildHasher S.Hasher.Hasher K.eq K.hash_input
             self.old call.old }
         // What it gives, and what the table is after it.
-        ensures moves { IfOk result (λ turn. (o : TableOp K V) → operation_of call.old ≡ Some o
-            → Moves K.eq o
+        ensures moves { IfOk result (λ turn. (o : KeyOp K V) → operation_of call.old ≡ Some o
+            → MovesKey K.eq o
             (map_in S.BuildHasher S.Hasher.Hasher K.eq K.hash_input self.old)
             (count_of self.old) turn
             (map_in S.BuildHasher S.Hasher.Hasher K.eq K.hash_input self.new)
@@ -475,6 +484,340 @@ impl<K: Eq + Hash + Exact, V: Exact, S: BuildHasher + Drop> Table<K, V> for Buck
         }
         self.peak = self.peak.max(self.len);
         step_parts(&mut self.parts, &mut self.len, call)
+    }
+}
+
+// The calls of the trait: each is an operation on one key, or a list.
+impl<K: Eq + Hash + Exact, V: Exact, S: BuildHasher + Drop> BucketTable<K, V, S> {
+    ghost use Rattle.moka_buckets.specs.KeyOps.{op_of};
+    ghost use Rattle.moka_buckets.specs.Ops.{StepsTable, bucket_table, covers_for, fits_for, fits_list, is_joined, left_for, listed_for, operation_for, part_for, parts_in};
+    ghost use Rattle.moka_buckets.specs.Hashing.{hash_in};
+    ghost use Rattle.moka_buckets.specs.Parts.{AreParts, listed_over};
+    ghost use Rattle.moka_buckets.specs.Keys.{nodes_of};
+    ghost use Rattle.moka_buckets.specs.Listed.{keys_at};
+    ghost use Rattle.moka_buckets.specs.Views.{count_of, first_of, map_in, peak_of, word_of};
+    ghost use Rattle.std.specs.Map.{keys_of};
+    ghost use Rattle.std.specs.Option.{option_map_or, option_to_list};
+    ghost use Rattle.std.specs.Prelude.{[]};
+    ghost use Rattle.moka_buckets.specs.declared.op_call.OpCall.{OpCall};
+    ghost use Rattle.moka_buckets.specs.declared.op_call.OpCall.TheVariants as any;
+
+    // Begins an operation on a key.
+    fn begin_op(&self, operation: KeyOp<K, V>) -> OpCall<K, V>
+        ensures operation { operation_for result ≡ Some (op_of operation) }
+        ensures fits { fits_for S.BuildHasher S.Hasher.Hasher K.eq K.hash_input self.now result }
+        ensures left { left_for self.now result
+            ≤ most_steps (first_of self.now) (peak_of self.now) }
+    {
+        OpCall::Key(self.begin_key(operation))
+    }
+
+    // Begins a list.
+    fn begin_list(&self, part: usize) -> OpCall<K, V>
+        ensures operation { operation_for result ≡ Some (TableOp.Keys part) }
+        ensures fits { fits_for S.BuildHasher S.Hasher.Hasher K.eq K.hash_input self.now result }
+        ensures left { left_for self.now result
+            ≤ most_steps (first_of self.now) (peak_of self.now) }
+        ensures none { (q : K) → listed_for self.now result q → ⊥ }
+        ensures all { (q : K)
+            → part_for S.BuildHasher S.Hasher.Hasher K.eq K.hash_input self.now q ≡ part
+            → covers_for K.eq self.now result q }
+    {
+        OpCall::Keys(ListCall {
+            call: self.begin_keys(part),
+            keys: Vec::new(self.alloc),
+        })
+    }
+
+    // Makes one step of an operation on a key.
+    fn step_one(&mut self, call: &mut BucketCall<K, V>) -> Result<TableTurn<K, V>, AllocError>
+        requires fits { fits_for S.BuildHasher S.Hasher.Hasher K.eq K.hash_input
+            self.old (any.Key call.old) }
+        ensures { StepsTable (bucket_table S.BuildHasher S.Hasher.Hasher K.eq K.hash_input) K.eq
+            self.old (any.Key call.old) result self.new (any.Key call.new) }
+    {
+        self.step_key(call)
+    }
+
+    // Makes one step of a list.
+    fn step_list(&mut self, list: &mut ListCall<K>) -> Result<TableTurn<K, V>, AllocError>
+        requires fits { fits_for S.BuildHasher S.Hasher.Hasher K.eq K.hash_input
+            self.old (any.Keys list.old) }
+        ensures { StepsTable (bucket_table S.BuildHasher S.Hasher.Hasher K.eq K.hash_input) K.eq
+            self.old (any.Keys list.old) result self.new (any.Keys list.new) }
+    {
+        self.is_well();
+        if self.is_joined() {
+            self.list_all(list)
+        } else {
+            self.list_next(list)
+        }
+    }
+
+    // Whether all segments are one part.
+    fn is_joined(&self) -> bool
+        ensures { result ≡ is_joined self.now }
+    {
+        self.parts.len() > MOST_PARTS
+    }
+
+    // Lists the keys of all segments at once, as those of part 0; any other part has none.
+    fn list_all(&self, list: &ListCall<K>) -> Result<TableTurn<K, V>, AllocError>
+        requires joined { is_joined self.now ≡ true }
+        ensures { IfOk result (λ turn. (keys : List K)
+            × (turn ≡ TableTurn.Decided (found.Keys keys)) × IsList K.eq
+            (map_in S.BuildHasher S.Hasher.Hasher K.eq K.hash_input self.now)
+            (λ q. part_for S.BuildHasher S.Hasher.Hasher K.eq K.hash_input self.now q
+            ≡ list.now.call.segment)
+            (listed_for self.now (any.Keys list.now)) (covers_for K.eq self.now (any.Keys list.now))
+            (longest (first_of self.now) (peak_of self.now)) keys) }
+    {
+        self.is_well();
+        let keys = self.keys_of_part(list.call.segment)?;
+        Ok(TableTurn::Decided(TableAnswer::Keys(KeyList::from_vec(keys))))
+    }
+
+    // Clones of the keys of all segments, of part 0; of any other part none.
+    fn keys_of_part(&self, part: usize) -> Result<Vec<K>, AllocError>
+        ensures all { IfOk result (λ keys. part ≡ 0
+            → keys.items ≡ keys_of (listed_over self.now.parts)) }
+        ensures none { IfOk result (λ keys. part ≢ 0 → keys.items ≡ []) }
+    {
+        if part != 0 {
+            return Ok(Vec::new(self.alloc()));
+        }
+        let keys = self.all_keys()?;
+        Ok(keys)
+    }
+
+    fn all_keys(&self) -> Result<Vec<K>, AllocError>
+        ensures { IfOk result (λ keys. keys.items ≡ keys_of (listed_over self.now.parts)) }
+    {
+        let keys = copy_all(self.alloc, &self.parts)?;
+        Ok(keys)
+    }
+
+    // What is so of each table: its segments are well, and a call that fits has few steps left.
+    fn is_well(&self)
+        ensures well { AreParts K.eq
+            (hash_in S.BuildHasher S.Hasher.Hasher K.hash_input self.now.hasher) self.now.parts
+            (first_of self.now) (peak_of self.now) (count_of self.now) }
+        ensures left { (other : OpCall K V)
+            → fits_for S.BuildHasher S.Hasher.Hasher K.eq K.hash_input self.now other
+            → left_for self.now other ≤ most_steps (first_of self.now) (peak_of self.now) }
+    {
+        let _ = self.parts.len();
+    }
+
+    // Makes one step of a list of a segment. A key that is listed is cloned first: so without memory
+    // nothing has changed.
+    fn list_next(&mut self, list: &mut ListCall<K>) -> Result<TableTurn<K, V>, AllocError>
+        requires fits { fits_for S.BuildHasher S.Hasher.Hasher K.eq K.hash_input
+            self.old (any.Keys list.old) }
+        requires apart { is_joined self.old ≡ false }
+        ensures { StepsTable (bucket_table S.BuildHasher S.Hasher.Hasher K.eq K.hash_input) K.eq
+            self.old (any.Keys list.old) result self.new (any.Keys list.new) }
+    {
+        self.is_well();
+        let word = self.word_next(&list.call);
+        let key = self.key_next(&list.call, word)?;
+        make_room(&mut list.keys, &key)?;
+        let done = self.step_keys(&mut list.call)?;
+        follow(&mut list.keys, word, key);
+        Ok(give(self.alloc(), &mut list.keys, done))
+    }
+
+    fn alloc(&self) -> Global {
+        self.alloc
+    }
+
+    // The word that the call lists next, where it lists one.
+    fn word_next(&self, call: &KeysCall) -> Option<Word>
+        ensures { result ≡ word_of self.now call.now }
+    {
+        next_word(&self.parts, call)
+    }
+
+    // A clone of the key that is stored there, if one is.
+    fn key_next(&self, call: &KeysCall, word: Option<Word>) -> Result<Option<K>, AllocError>
+        ensures { IfOk result (λ key. option_to_list key
+            ≡ option_map_or (keys_at (nodes_of self.now.parts call.now.segment)) word []) }
+    {
+        next_key(nodes_of(&self.parts, call.segment), word)
+    }
+
+    // Makes one step, of an operation on a key or of a list.
+    fn step_any(&mut self, call: &mut OpCall<K, V>) -> Result<TableTurn<K, V>, AllocError>
+        requires fits { fits_for S.BuildHasher S.Hasher.Hasher K.eq K.hash_input
+            self.old call.old }
+        ensures steps { StepsTable
+            (bucket_table S.BuildHasher S.Hasher.Hasher K.eq K.hash_input) K.eq
+            self.old call.old result self.new call.new }
+    {
+        match call {
+            OpCall::Key(call) => self.step_one(call),
+            OpCall::Keys(list) => self.step_list(list),
+        }
+    }
+}
+
+impl<K: Eq + Hash + Exact, V: Exact, S: BuildHasher + Drop> Table<K, V> for BucketTable<K, V, S> {
+    type Call = OpCall<K, V>;
+
+    ghost use Rattle.moka_buckets.specs.Ops.{covers_for, fits_for, left_for, listed_for, operation_for, part_for, parts_in};
+    ghost use Rattle.moka_buckets.specs.Views.{count_of, first_of, map_in, peak_of};
+    ghost use Rattle.moka_buckets.specs.declared.op_call.OpCall.{OpCall};
+    ghost use Rattle.moka_buckets.specs.Hashing.{hash_in};
+    ghost use Rattle.moka_buckets.specs.Parts.{segment_of};
+    ghost use Rattle.moka_buckets.specs.Ops.{in_both, is_joined, segment_parts};
+    ghost use Rattle.moka_buckets.specs.Views.{segment_for};
+    ghost use Rattle.std.proofs.Common.{ap};
+    ghost use Rattle.std.specs.List.{fold};
+
+    ghost map = { λ t. map_in S.BuildHasher S.Hasher.Hasher K.eq K.hash_input t };
+
+    ghost count = { λ t. count_of t };
+
+    ghost peak = { λ t. peak_of t };
+
+    ghost first = { λ t. first_of t };
+
+    ghost operation_of = { λ c. operation_for c };
+
+    ghost fits = { λ t c. fits_for S.BuildHasher S.Hasher.Hasher K.eq K.hash_input t c };
+
+    ghost left = { λ t c. left_for t c };
+
+    ghost divided = { λ t. parts_in t };
+
+    ghost part_of = { λ t. part_for S.BuildHasher S.Hasher.Hasher K.eq K.hash_input t };
+
+    ghost listed = { λ t c. listed_for t c };
+
+    ghost covers = { λ t c. covers_for K.eq t c };
+
+    ghost peak_holds = { λ t. Prim.omega arith };
+
+    ghost first_holds = { λ t. Prim.omega arith };
+
+    ghost parts_hold = { λ t. (
+      in_both (λ n m. 0 < n) (is_joined t) 1 (segment_parts t) 0 0
+          (Prim.omega arith) (Prim.omega arith),
+      in_both (λ n m. n ≤ 64) (is_joined t) 1 (segment_parts t) 0 0
+          (Prim.omega arith) (Prim.omega arith),
+    ) };
+
+    ghost part_holds = { λ t q. in_both (λ n m. n < m) (is_joined t) 0
+        (min (segment_for S.BuildHasher S.Hasher.Hasher K.eq K.hash_input t q)
+        (segment_parts t - 1))
+        1 (segment_parts t) (Prim.omega arith) (Prim.omega arith) };
+
+    ghost alike = { λ t a b same. ap (λ w. if is_joined t then 0 else
+        min (segment_of (length t.parts) (S.Hasher.Hasher.finish
+        (fold S.Hasher.Hasher.write (S.BuildHasher.build_hasher t.hasher) w)))
+        (segment_parts t - 1)) (K.respects_eq a b same) };
+
+    fn parts(&self) -> usize
+        ensures { result ≡ parts_in self.now }
+    {
+        if self.parts.len() > MOST_PARTS {
+            1
+        } else {
+            self.parts.len()
+        }
+    }
+
+    fn begin(&self, operation: TableOp<K, V>) -> OpCall<K, V>
+        ensures operation { operation_for result ≡ Some operation }
+        ensures fits { fits_for S.BuildHasher S.Hasher.Hasher K.eq K.hash_input self.now result }
+        ensures left { left_for self.now result
+            ≤ most_steps (first_of self.now) (peak_of self.now) }
+        ensures none { (part : ℕ) → operation ≡ TableOp.Keys part
+            → (q : K) → listed_for self.now result q → ⊥ }
+        ensures all { (part : ℕ) → operation ≡ TableOp.Keys part
+            → (q : K) → part_for S.BuildHasher S.Hasher.Hasher K.eq K.hash_input self.now q ≡ part
+            → covers_for K.eq self.now result q }
+    {
+        match operation {
+            TableOp::Get { key } => self.begin_op(KeyOp::Get { key }),
+            TableOp::InsertOrModify { key, stored } => {
+                self.begin_op(KeyOp::InsertOrModify { key, stored })
+            }
+            TableOp::InsertIfAbsent { key, stored } => {
+                self.begin_op(KeyOp::InsertIfAbsent { key, stored })
+            }
+            TableOp::RemoveIf { key, stamp } => self.begin_op(KeyOp::RemoveIf { key, stamp }),
+            TableOp::Keys { part } => self.begin_list(part),
+        }
+    }
+
+    fn step(&mut self, call: &mut OpCall<K, V>) -> Result<TableTurn<K, V>, AllocError>
+        requires fits { fits_for S.BuildHasher S.Hasher.Hasher K.eq K.hash_input self.old call.old }
+        // What it gives, and what the table is after it.
+        ensures moves { IfOk result (λ turn. (o : TableOp K V) → operation_for call.old ≡ Some o
+            → Moves K.eq o (map_in S.BuildHasher S.Hasher.Hasher K.eq K.hash_input self.old)
+            (count_of self.old) turn
+            (map_in S.BuildHasher S.Hasher.Hasher K.eq K.hash_input self.new) (count_of self.new)) }
+        ensures peak { peak_of self.new ≡ max (peak_of self.old) (count_of self.new) }
+        ensures first { first_of self.new ≡ first_of self.old }
+        ensures parts { (parts_in self.new ≡ parts_in self.old)
+            × ((q : K) → part_for S.BuildHasher S.Hasher.Hasher K.eq K.hash_input self.new q ≡
+            part_for S.BuildHasher S.Hasher.Hasher K.eq K.hash_input self.old q) }
+        // Of a call that lists the keys of a part: how it goes on, and which it gives at last.
+        ensures lists { IfOk result (λ turn. (part : ℕ)
+            → operation_for call.old ≡ Some (TableOp.Keys part) → turn ≡ TableTurn.Going
+            → GoesOnListing (map_in S.BuildHasher S.Hasher.Hasher K.eq K.hash_input self.old) (λ
+            q. part_for S.BuildHasher S.Hasher.Hasher K.eq K.hash_input self.old q ≡ part)
+            (listed_for self.old call.old) (listed_for self.new call.new)
+            (covers_for K.eq self.old call.old) (covers_for K.eq self.new call.new)) }
+        ensures gives { IfOk result (λ turn. (part : ℕ) → (keys : List K)
+            → operation_for call.old ≡ Some (TableOp.Keys part)
+            → turn ≡ TableTurn.Decided (found.Keys keys)
+            → IsList K.eq (map_in S.BuildHasher S.Hasher.Hasher K.eq K.hash_input self.old) (λ q.
+            part_for S.BuildHasher S.Hasher.Hasher K.eq K.hash_input self.old q ≡ part)
+            (listed_for self.old call.old) (covers_for K.eq self.old call.old)
+            (longest (first_of self.old) (peak_of self.old)) keys) }
+        // An undecided call is still begun, and nearer to its end.
+        ensures undecided { IfOk result (λ turn. turn ≡ TableTurn.Going
+            → (operation_for call.new ≡ operation_for call.old)
+            × fits_for S.BuildHasher S.Hasher.Hasher K.eq K.hash_input self.new call.new) }
+        ensures nears { IfOk result (λ turn. turn ≡ TableTurn.Going
+            → left_for self.new call.new < left_for self.old call.old) }
+        // The other calls: they still fit, and are as far from their end at most as at their
+        // beginning.
+        ensures others { (other : OpCall K V)
+            → fits_for S.BuildHasher S.Hasher.Hasher K.eq K.hash_input self.old other → fits_for
+            S.BuildHasher S.Hasher.Hasher K.eq K.hash_input self.new other }
+        ensures others_left { (other : OpCall K V) → fits_for S.BuildHasher S.Hasher.Hasher K.eq
+            K.hash_input self.old other
+            → left_for self.new other ≤ most_steps (first_of self.new) (peak_of self.new) }
+        // They have listed no key more, and cover what they covered of the keys that stay.
+        ensures others_listed { (other : OpCall K V) → fits_for S.BuildHasher S.Hasher.Hasher K.eq
+            K.hash_input self.old other
+            → (q : K) → listed_for self.new other q → listed_for self.old other q }
+        ensures others_cover { (other : OpCall K V) (part : ℕ) → fits_for S.BuildHasher
+            S.Hasher.Hasher K.eq K.hash_input self.old other
+            → operation_for other ≡ Some (TableOp.Keys part)
+            → (q : K) → part_for S.BuildHasher S.Hasher.Hasher K.eq K.hash_input self.old q ≡ part
+            → IsSome (map_in S.BuildHasher S.Hasher.Hasher K.eq K.hash_input self.old q) → IsSome
+            (map_in S.BuildHasher S.Hasher.Hasher K.eq K.hash_input self.new q)
+            → covers_for K.eq self.old other q → covers_for K.eq self.new other q }
+        // Without memory nothing has changed, for this call and for the others.
+        ensures err_map { OnErr result (SameMap (map_in S.BuildHasher S.Hasher.Hasher K.eq
+            K.hash_input self.old) (map_in S.BuildHasher S.Hasher.Hasher K.eq K.hash_input
+            self.new)) }
+        ensures err_count { OnErr result (count_of self.new ≡ count_of self.old) }
+        ensures err_call { OnErr result ((operation_for call.new ≡ operation_for call.old)
+            × fits_for S.BuildHasher S.Hasher.Hasher K.eq K.hash_input self.new call.new
+            × (left_for self.new call.new ≡ left_for self.old call.old)) }
+        ensures err_listed { OnErr result ((q : K)
+            → (listed_for self.new call.new q → listed_for self.old call.old q)
+            × (covers_for K.eq self.old call.old q → covers_for K.eq self.new call.new q)) }
+        ensures err_others { OnErr result ((other : OpCall K V) → fits_for S.BuildHasher
+            S.Hasher.Hasher K.eq K.hash_input self.old other
+            → left_for self.new other ≤ left_for self.old other) }
+    {
+        self.step_any(call)
     }
 
     fn pairs(&self, alloc: Global) -> Result<EntryList<K, V>, AllocError>

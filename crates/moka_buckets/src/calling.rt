@@ -1,35 +1,36 @@
 //! What a table asks of its operations.
 
 ghost use Rattle.std.specs.Prelude.{◌≡◌};
-ghost use Rattle.moka_hist.specs.Tables.{key_of};
+ghost use Rattle.moka_buckets.specs.KeyOps.{key_of};
 ghost use Rattle.moka_buckets.specs.Tables.{kind_of};
 ghost use Rattle.moka_buckets.specs.Steps.{turn_by};
 
+use crate::key_op::KeyOp;
 use moka_calls::TableCall;
 use moka_growth::CallKind;
-use moka_hist::{TableAnswer, TableOp, TableTurn};
+use moka_hist::{TableAnswer, TableTurn};
 
 /// The key of the operation.
-pub fn key_of<K, V>(operation: &TableOp<K, V>) -> &K
+pub fn key_of<K, V>(operation: &KeyOp<K, V>) -> &K
     ensures { result.now ≡ key_of operation.now }
 {
     match operation {
-        TableOp::Get { key } => key,
-        TableOp::InsertOrModify { key, .. } => key,
-        TableOp::InsertIfAbsent { key, .. } => key,
-        TableOp::RemoveIf { key, .. } => key,
+        KeyOp::Get { key } => key,
+        KeyOp::InsertOrModify { key, .. } => key,
+        KeyOp::InsertIfAbsent { key, .. } => key,
+        KeyOp::RemoveIf { key, .. } => key,
     }
 }
 
 /// What its call is for.
-pub fn kind_of<K, V>(operation: &TableOp<K, V>) -> CallKind
+pub fn kind_of<K, V>(operation: &KeyOp<K, V>) -> CallKind
     ensures { result ≡ kind_of operation.now }
 {
     match operation {
-        TableOp::Get { .. } => CallKind::Get,
-        TableOp::InsertOrModify { .. } => CallKind::Insert,
-        TableOp::InsertIfAbsent { .. } => CallKind::Insert,
-        TableOp::RemoveIf { .. } => CallKind::Remove,
+        KeyOp::Get { .. } => CallKind::Get,
+        KeyOp::InsertOrModify { .. } => CallKind::Insert,
+        KeyOp::InsertIfAbsent { .. } => CallKind::Insert,
+        KeyOp::RemoveIf { .. } => CallKind::Remove,
     }
 }
 

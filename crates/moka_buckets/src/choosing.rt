@@ -8,10 +8,10 @@ ghost use Rattle.moka_buckets.specs.Tables.{choose, put_of};
 ghost use Rattle.moka_buckets.specs.Steps.{answered, asked};
 
 use crate::bucket_call::BucketCall;
+use crate::key_op::KeyOp;
 use crate::node::Node;
 use crate::nodes::node_at;
 use moka_calls::TableCall;
-use moka_hist::TableOp;
 use moka_words::{Access, Choice, Seen};
 
 /// Answers a call that asks what is to be done.
@@ -47,17 +47,17 @@ pub fn asked(table: &TableCall) -> Option<Option<u64>>
 // What is to be done where this node is present under the operation's key.
 fn choose<K, V>(
     nodes: &[Node<K, V>],
-    operation: &TableOp<K, V>,
+    operation: &KeyOp<K, V>,
     node: Option<u64>,
     present: Option<u64>,
 ) -> Choice
     ensures { result ≡ choose nodes.now operation.now node present }
 {
     match operation {
-        TableOp::Get { .. } => Choice::Keep,
-        TableOp::InsertOrModify { .. } => put_of(node),
-        TableOp::InsertIfAbsent { .. } => put_first(node, present),
-        TableOp::RemoveIf { stamp, .. } => take_out(nodes, present, *stamp),
+        KeyOp::Get { .. } => Choice::Keep,
+        KeyOp::InsertOrModify { .. } => put_of(node),
+        KeyOp::InsertIfAbsent { .. } => put_first(node, present),
+        KeyOp::RemoveIf { stamp, .. } => take_out(nodes, present, *stamp),
     }
 }
 

@@ -1,24 +1,24 @@
 //! The node whose pair an operation answers.
 
 ghost use Rattle.std.specs.Prelude.{◌≡◌, cond, None};
-ghost use Rattle.moka_hist.specs.Tables.{key_of};
+ghost use Rattle.moka_buckets.specs.KeyOps.{key_of};
 ghost use Rattle.moka_buckets.specs.Nodes.{key_in, own_by};
 ghost use Rattle.moka_buckets.specs.Arrays.{memory_of};
 ghost use Rattle.moka_buckets.specs.Tables.{found_at, found_before, found_by, is_look};
 
 use crate::array::Arrays;
 use crate::calling::key_of;
+use crate::key_op::KeyOp;
 use crate::node::Node;
 use crate::nodes::node_at;
 use crate::words::stored_in;
-use moka_hist::TableOp;
 use moka_words::{Access, Word};
 
 /// The node whose pair the operation answers, if it ends by this access.
 pub fn found<K: Eq, V>(
     arrays: &Arrays,
     nodes: &[Node<K, V>],
-    operation: &TableOp<K, V>,
+    operation: &KeyOp<K, V>,
     access: Access,
 ) -> Option<u64>
     ensures { result ≡ found_by operation.now
@@ -34,7 +34,7 @@ pub fn found<K: Eq, V>(
 }
 
 // The node that an operation which answers what it leaves finds in the word.
-fn found_in<K: Eq, V>(nodes: &[Node<K, V>], operation: &TableOp<K, V>, word: Word) -> Option<u64>
+fn found_in<K: Eq, V>(nodes: &[Node<K, V>], operation: &KeyOp<K, V>, word: Word) -> Option<u64>
     ensures { result ≡ cond (is_look operation.now)
         (found_at (own_by K.eq (key_in nodes.now) (key_of operation.now)) word) None }
 {
@@ -46,14 +46,14 @@ fn found_in<K: Eq, V>(nodes: &[Node<K, V>], operation: &TableOp<K, V>, word: Wor
 }
 
 // Whether the operation answers the pair that it leaves.
-fn is_look<K, V>(operation: &TableOp<K, V>) -> bool
+fn is_look<K, V>(operation: &KeyOp<K, V>) -> bool
     ensures { result ≡ is_look operation.now }
 {
     match operation {
-        TableOp::Get { .. } => true,
-        TableOp::InsertOrModify { .. } => false,
-        TableOp::InsertIfAbsent { .. } => true,
-        TableOp::RemoveIf { .. } => false,
+        KeyOp::Get { .. } => true,
+        KeyOp::InsertOrModify { .. } => false,
+        KeyOp::InsertIfAbsent { .. } => true,
+        KeyOp::RemoveIf { .. } => false,
     }
 }
 

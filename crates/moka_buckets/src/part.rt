@@ -1,7 +1,7 @@
 //! The segments of a table.
 
 ghost use Rattle.std.specs.Prelude.{◌≡◌, ℕ, ◌-◌, ◌<◌, ◌^◌, Some, length, slice_set};
-ghost use Rattle.moka_hist.specs.Tables.{key_of};
+ghost use Rattle.moka_buckets.specs.KeyOps.{key_of};
 ghost use Rattle.moka_buckets.specs.Accesses.{MovesOnce, StaysThere, StepsOnce, wanted_by};
 ghost use Rattle.std.specs.List.{slice_get};
 ghost use Rattle.moka_buckets.specs.Arrays.{ArePlaced};

@@ -7,7 +7,7 @@ ghost use Rattle.moka_words.specs.Words.{stored_in};
 ghost use Rattle.moka_buckets.specs.Asking.{ListsCalls};
 ghost use Rattle.moka_buckets.specs.Listed.{keys_at, listed_in};
 ghost use Rattle.moka_buckets.specs.Nodes.{pair_at};
-ghost use Rattle.moka_buckets.specs.Parts.{listed_part};
+ghost use Rattle.moka_buckets.specs.Parts.{listed_over, listed_part};
 
 use crate::node::Node;
 use crate::nodes::node_at;
@@ -66,6 +66,27 @@ pub fn copy_keys<K: Exact, V>(alloc: Global, part: &Part<K, V>) -> Result<Vec<K>
     Ok(keys)
 }
 
+/// Clones of the keys of all segments, in their order.
+pub fn copy_all<K: Exact, V>(alloc: Global, parts: &[Part<K, V>]) -> Result<Vec<K>, AllocError>
+    ensures { IfOk result (λ keys. keys.items ≡ keys_of (listed_over parts.now)) }
+{
+    let mut keys = Vec::new(alloc);
+    for part in parts {
+        copy_part(&mut keys, part)?;
+    }
+    Ok(keys)
+}
+
+fn copy_part<K: Exact, V>(keys: &mut Vec<K>, part: &Part<K, V>) -> Result<(), AllocError>
+    ensures { IfOk result (λ done. keys.new.items
+        ≡ keys.old.items ++ keys_of (listed_part part.now)) }
+{
+    for word in part.arrays.root_words() {
+        copy_key(keys, part.nodes.as_slice(), *word)?;
+    }
+    Ok(())
+}
+
 // A clone of the key that is stored in the word, if one is.
 fn copy_key<K: Exact, V>(
     keys: &mut Vec<K>,
@@ -82,8 +103,8 @@ fn copy_key<K: Exact, V>(
     Ok(())
 }
 
-// The key that is stored in the word.
-fn stored_key<K, V>(nodes: &[Node<K, V>], word: Word) -> Option<&K>
+/// The key that is stored in the word.
+pub fn stored_key<K, V>(nodes: &[Node<K, V>], word: Word) -> Option<&K>
     ensures { option_copied result ≡ option_map (λ p. p.0) (pair_at nodes.now (stored_in word)) }
 {
     match stored_in(word) {

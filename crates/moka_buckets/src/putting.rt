@@ -9,8 +9,9 @@ ghost use Rattle.moka_buckets.specs.Steps.{Places, asked};
 
 use crate::bucket_call::BucketCall;
 use crate::choosing::asked;
+use crate::key_op::KeyOp;
 use crate::node::Node;
-use moka_hist::{Stored, TableOp};
+use moka_hist::Stored;
 use moka_values::Exact;
 use moka_words::{Seen, Word};
 use std::alloc::AllocError;
@@ -103,30 +104,30 @@ fn opened_by(word: Word, same: bool) -> Option<Option<u64>>
 }
 
 // Whether the operation puts its pair where this node is present under its key.
-fn puts_at<K, V>(operation: &TableOp<K, V>, present: Option<u64>) -> bool
+fn puts_at<K, V>(operation: &KeyOp<K, V>, present: Option<u64>) -> bool
     ensures { result ≡ puts_at operation.now present }
 {
     match operation {
-        TableOp::Get { .. } => false,
-        TableOp::InsertOrModify { .. } => true,
-        TableOp::InsertIfAbsent { .. } => present.is_none(),
-        TableOp::RemoveIf { .. } => false,
+        KeyOp::Get { .. } => false,
+        KeyOp::InsertOrModify { .. } => true,
+        KeyOp::InsertIfAbsent { .. } => present.is_none(),
+        KeyOp::RemoveIf { .. } => false,
     }
 }
 
 // A node for the pair that is to be stored.
 fn new_node<K: Exact, V: Exact>(
-    operation: &TableOp<K, V>,
+    operation: &KeyOp<K, V>,
     hash: u64,
 ) -> Result<Option<Node<K, V>>, AllocError>
     ensures { IfOk result (λ node. node ≡ option_map
         (λ pair. record { key = pair.0; stored = pair.1; hash = hash }) (stored_by operation.now)) }
 {
     match operation {
-        TableOp::Get { .. } => Ok(None),
-        TableOp::InsertOrModify { key, stored } => node_for(key, stored, hash),
-        TableOp::InsertIfAbsent { key, stored } => node_for(key, stored, hash),
-        TableOp::RemoveIf { .. } => Ok(None),
+        KeyOp::Get { .. } => Ok(None),
+        KeyOp::InsertOrModify { key, stored } => node_for(key, stored, hash),
+        KeyOp::InsertIfAbsent { key, stored } => node_for(key, stored, hash),
+        KeyOp::RemoveIf { .. } => Ok(None),
     }
 }
 

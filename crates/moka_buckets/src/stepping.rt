@@ -1,7 +1,7 @@
 //! One step of an operation.
 
 ghost use Rattle.std.specs.Prelude.{◌≡◌, ℕ, IfOk, Ok, OnErr, Some};
-ghost use Rattle.moka_hist.specs.Tables.{key_of};
+ghost use Rattle.moka_buckets.specs.KeyOps.{key_of};
 ghost use Rattle.moka_buckets.specs.Arrays.{ArePlaced, memory_of};
 ghost use Rattle.moka_buckets.specs.Accesses.{Accesses, wanted_by};
 ghost use Rattle.moka_buckets.specs.Steps.{CanBegin, Done};

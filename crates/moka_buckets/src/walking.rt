@@ -159,8 +159,8 @@ pub fn listed_keys<K: Exact, V>(
     }
 }
 
-// The nodes of a segment; none where it isn't there.
-fn nodes_of<K, V>(parts: &[Part<K, V>], segment: usize) -> &[Node<K, V>]
+/// The nodes of a segment; none where it isn't there.
+pub fn nodes_of<K, V>(parts: &[Part<K, V>], segment: usize) -> &[Node<K, V>]
     ensures { result.now ≡ nodes_of parts.now segment }
 {
     match parts.get(segment) {

@@ -1,7 +1,7 @@
 //! What a table asks of a word.
 
 ghost use Rattle.std.specs.Prelude.{◌≡◌, ◌↔◌, IsTrue};
-ghost use Rattle.moka_words.specs.Words.{node_of, stored_in};
+ghost use Rattle.moka_words.specs.Words.{is_sealed, node_of, stored_in};
 ghost use Rattle.moka_growth.specs.Left.{word_eq};
 ghost use Rattle.moka_growth.specs.Counts.{tombstones_after};
 
@@ -25,6 +25,16 @@ pub fn stored_in(word: Word) -> Option<u64>
     match word {
         Word::Live(node) | Word::SealedLive(node) => Some(node),
         _ => None,
+    }
+}
+
+/// Whether the word is sealed: then the array after its own has what it stores.
+pub fn is_sealed(word: Word) -> bool
+    ensures { result ≡ is_sealed word }
+{
+    match word {
+        Word::SealedEmpty | Word::SealedLive(_) | Word::SealedTomb(_) => true,
+        _ => false,
     }
 }
 

@@ -61,20 +61,20 @@ record Holds {K V E : Type 0} (kind : Kind) (such : Told V E → Type 0) (P : An
 -- so it holds of its answer
 module _ {K V E : Type 0} (eq : K → K → Bool) (law : LoadsTell K V E eq) (such : Taken V E → Type 0) (rules : Rules) (begin : Start K V) (kind : Kind)
     (loads : kind_loaded begin ≡ Some kind) (P : Answer K V E → Type 0) (holds : Holds kind (λ t. such (Answered t)) P) (n : ℕ) (said : Answer K V E) where
-  answers_so : EndedWith eq such n (fresh_call rules begin) (answers said) → P said
+  answers_so : EndedWith eq such n (fresh_call 1 rules begin) (answers said) → P said
   answers_so end =
       let path : List (Got K V E) = what_gave end.came.0 in
       let whole : List (Got K V E) = path ++ end.given ∷ [] in
       either ((t : Told V E) × Contains whole (taken t) × FollowsTold t said)
       (((with : Settled V E) × Contains whole (read with) × FollowsEnd kind with said) ⊎ ((there : K) × (stored : Stored V) × Contains whole (looked there stored) × Contains whole judged × (said ≡ answer.Loaded stored.value false))
       ⊎ (Contains whole (read settled.Aborted) × (said ≡ answer.RetriesExhausted))) (P said)
-      (λ by. holds.told by.0 said (such_told eq such n (fresh_call rules begin) (answers said) end by.0 by.1) by.2)
+      (λ by. holds.told by.0 said (such_told eq such n (fresh_call 1 rules begin) (answers said) end by.0 by.1) by.2)
       (either ((with : Settled V E) × Contains whole (read with) × FollowsEnd kind with said)
       (((there : K) × (stored : Stored V) × Contains whole (looked there stored) × Contains whole judged × (said ≡ answer.Loaded stored.value false)) ⊎ (Contains whole (read settled.Aborted) × (said ≡ answer.RetriesExhausted))) (P said)
       (λ by. holds.ended by.0 said by.2)
       (either ((there : K) × (stored : Stored V) × Contains whole (looked there stored) × Contains whole judged × (said ≡ answer.Loaded stored.value false)) (Contains whole (read settled.Aborted) × (said ≡ answer.RetriesExhausted)) (P said)
       (λ by. subst P (sym by.4) (holds.found by.1.value)) (λ by. subst P (sym by.1) holds.gave_up)))
-      (law rules begin kind n path end.call end.given said loads (may_lead_load eq such n (fresh_call rules begin) end.came.0 end.call end.came.1)
+      (law 1 rules begin kind n path end.call end.given said loads (may_lead_load eq such n (fresh_call 1 rules begin) end.came.0 end.call end.came.1)
       (may_give_load eq such n end.call end.given end.last) (sym (ap (λ (x : Next K V E). x.turn) end.follows)))
 
 -- an initializer that gives something is there

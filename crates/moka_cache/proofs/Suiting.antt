@@ -59,7 +59,7 @@ module _ {A K V E : Type 0} (eq : K → K → Bool) (law : ShapesFit K V E eq) (
   pub suits_on : (old new : Stage A K V E) → CameOnWith eq such (called rules start) old new → Suits eq start old → Suits eq start new
   suits_on (stage.Fresh begin) (stage.Fresh kept) came suits = subst (λ b. asks_nobody (start b) ≡ true) (sym came) suits
   suits_on (stage.Fresh begin) (stage.Running flow) came suits =
-      (begin, fits_on eq such flow.call (start begin) (fresh_call rules (start begin)) (call_of flow) (law rules (start begin) flow.call suits) came)
+      (begin, fits_on eq such flow.call (start begin) (fresh_call 1 rules (start begin)) (call_of flow) (law 1 rules (start begin) flow.call suits) came)
   suits_on (stage.Running old) (stage.Running new) came suits =
       (suits.0, subst (λ n. Fits eq n (start suits.0) (call_of new)) (sym came.0) (fits_on eq such old.call (start suits.0) (call_of old) (call_of new) suits.1 came.1))
   suits_on stage.Spent stage.Spent came suits = tt
@@ -78,7 +78,7 @@ module _ {A K V E : Type 0} (eq : K → K → Bool) (law : ShapesFit K V E eq) (
 
   pub suits_answer : (old : Stage A K V E) (answer : Answer K V E) → AnswersWith eq such (called rules start) old answer → Suits eq start old → IsAnswerOf start answer
   suits_answer (stage.Fresh begin) answer by suits =
-      (begin, fits_end eq such by.0 (start begin) (fresh_call rules (start begin)) answer (law rules (start begin) by.0 suits) by.1)
+      (begin, fits_end eq such by.0 (start begin) (fresh_call 1 rules (start begin)) answer (law 1 rules (start begin) by.0 suits) by.1)
   suits_answer (stage.Running old) answer by suits = (suits.0, fits_end eq such old.call (start suits.0) (call_of old) answer suits.1 by)
   suits_answer stage.Spent answer by suits = absurd by
   suits_answer stage.Answered answer by suits = absurd by

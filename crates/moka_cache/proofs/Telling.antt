@@ -94,13 +94,13 @@ module _ {K V E : Type 0} (eq : K → K → Bool) (such : Taken V E → Type 0) 
 
 module _ {K V E : Type 0} (eq : K → K → Bool) (law : ComputesTell K V E eq) (such : Taken V E → Type 0) (rules : Rules) (begin : Start K V) (key : K)
     (computes : computed_key begin ≡ Some key) (n : ℕ) (said : Answer K V E) where
-  answers_such : EndedWith eq such n (fresh_call rules begin) (answers said) → AnswersSuch (λ t. such (Answered t)) begin key said
+  answers_such : EndedWith eq such n (fresh_call 1 rules begin) (answers said) → AnswersSuch (λ t. such (Answered t)) begin key said
   answers_such end =
       let path : List (Got K V E) = what_gave end.came.0 in
       either ((t : Told V E) × Contains (path ++ end.given ∷ []) (taken t) × Follows key t said)
       ((is_alone begin ≡ true) × Contains (path ++ end.given ∷ []) other_goes × ((pair : Option (K × V)) × (said ≡ unchanged key pair)))
-      (AnswersSuch (λ t. such (Answered t)) begin key said) (λ by. inl (by.0, such_told eq such n (fresh_call rules begin) (answers said) end by.0 by.1, by.2)) (λ alone. inr (alone.0, alone.2))
-      (law rules begin key n path end.call end.given said computes (may_lead eq such n (fresh_call rules begin) end.came.0 end.call end.came.1)
+      (AnswersSuch (λ t. such (Answered t)) begin key said) (λ by. inl (by.0, such_told eq such n (fresh_call 1 rules begin) (answers said) end by.0 by.1, by.2)) (λ alone. inr (alone.0, alone.2))
+      (law 1 rules begin key n path end.call end.given said computes (may_lead eq such n (fresh_call 1 rules begin) end.came.0 end.call end.came.1)
       (may_give eq n end.call end.given end.last) (sym (ap (λ (x : Next K V E). x.turn) end.follows)))
 
 -- ---- what is stated of each answer

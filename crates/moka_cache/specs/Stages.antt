@@ -25,6 +25,7 @@ value_in (answer.ComputeErr error) = None
 value_in answer.RetriesExhausted = None
 value_in answer.Evicted = None
 value_in answer.Kept = None
+value_in answer.End = None
 
 module _ {A K V E : Type 0} where
   -- the state may be polled: it has not answered

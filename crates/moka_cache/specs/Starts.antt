@@ -4,6 +4,6 @@ use Rattle.moka_hist.specs.State.{Call}
 use Rattle.moka_hist.specs.declared.events.Start.{Start}
 use Rattle.moka_hist.specs.declared.rules.Rules.{Rules}
 
--- the fresh call, in a cache of these rules, of a state that starts so
+-- the fresh call, in a cache of these rules, of a state that starts so: its table has one part
 abbrev pub called : {A K V E : Type 0} → Rules → (A → Start K V) → A → Call K V E
-called rules start begin = fresh_call rules (start begin)
+called rules start begin = fresh_call 1 rules (start begin)

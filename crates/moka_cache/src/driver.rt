@@ -52,7 +52,7 @@ where
 
     /// The fresh flow of the call of this start and number.
     pub(crate) fn flow_of(&self, number: Number, start: Start<K, V>) -> Flow<K, V, E>
-        ensures fresh { call_of result ≡ fresh_call (rules_of self.now) start }
+        ensures fresh { call_of result ≡ fresh_call 1 (rules_of self.now) start }
         ensures rests { Rests result }
     {
         let shared: &Shared<K, V, E, L, S> = &self.shared;

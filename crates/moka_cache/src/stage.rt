@@ -2,11 +2,12 @@
 ghost use Rattle.std.specs.Prelude.{◌≡◌};
 
 use moka_hist::{Answer, Cause, CompResult, Entry, Kind, Load, Mode, Rules, Sought, Stored, Write};
-use moka_init::Flow;
 use moka_init::points::{
     Asks, Chosen, Computing, Drained, Ending, KeyCompute, Listening, Loading, Locked, Look,
-    Looking, Point, Posted, Posting, Put, Removal, Removing, TakeOut, Then, Uncopied, Writing,
+    Looking, Part, PartKeys, Point, Posted, Posting, Put, Removal, Removing, TakeOut, Then,
+    Uncopied, Walk, Writing,
 };
+use moka_init::{Flow, KeysLeft};
 use std::marker::PhantomData;
 use std::mem;
 
@@ -53,6 +54,7 @@ pub(crate) type Nested<K, V, E> = PhantomData<
             TakeOut<K>,
             Ending<V, E>,
         ),
+        (Walk<K, V>, PartKeys<K>, Part, KeysLeft<K>),
         (Asks, Then, Removal),
     ),
 >;

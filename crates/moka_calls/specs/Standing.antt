@@ -159,3 +159,21 @@ is_probe (call.Swing from array) = false
 abbrev pub is_probing : Step → Bool
 is_probing (Going c) = is_probe c.point
 is_probing (Decided e) = false
+
+-- where the word is that a call that goes on lists next: its array, and its index there
+abbrev pub place_at : call.Point → Option (ℕ × ℕ)
+place_at (call.Root met) = None
+place_at (call.Probe array size passed) = None
+place_at (call.Choose array size passed found) = None
+place_at (call.Change array size passed from to) = None
+place_at (call.Walk array size index nodes) = Some (array, index)
+place_at (call.Seal array size index kept) = None
+place_at (call.Close array size index word hash kept) = None
+place_at (call.Next array size kept) = None
+place_at (call.Link array size kept) = None
+place_at (call.Copy from array index laid) = None
+place_at (call.Swing from array) = None
+
+abbrev pub listed_next : Step → Option (ℕ × ℕ)
+listed_next (Going c) = place_at c.point
+listed_next (Decided e) = None

@@ -3,7 +3,7 @@
 ghost use Rattle.std.specs.Prelude.{◌≡◌, OnOk, OnErr, IfOk};
 ghost use Rattle.std.specs.Option.{option_copied, option_map};
 ghost use Rattle.moka_growth.specs.Calls.{Going, call_from};
-ghost use Rattle.moka_calls.specs.Standing.{Awaits, IsGoing, Wants, WantsMemory, after, ending_in, ending_of, is_probing};
+ghost use Rattle.moka_calls.specs.Standing.{Awaits, IsGoing, Wants, WantsMemory, after, ending_in, ending_of, is_probing, listed_next};
 
 use crate::Decision;
 use crate::course::{Course, Point};
@@ -80,6 +80,20 @@ impl TableCall {
         match self.course.point {
             Point::Probe { .. } => true,
             _ => false,
+        }
+    }
+
+    /// Answers where the word is that the call lists next, where it lists one: its array, and its
+    /// index there. The call lists the node that the word stores, unless it is sealed.
+    pub fn lists_next(&self) -> Option<(u64, usize)>
+        ensures { result ≡ listed_next self.now }
+    {
+        if self.course.decision.is_some() {
+            return None;
+        }
+        match self.course.point {
+            Point::Walk { spot } => Some((spot.array, spot.passed)),
+            _ => None,
         }
     }
 

@@ -122,6 +122,7 @@ const BAD: [(u64, &str); 3] = [
         cache\nstart invalidate_all 1\n|cache\nstart invalidate_all \n|\
         cache\nstart  invalidate_all\n|cache\nstart invalidate_al\n|\
         cache\nstart invalidate_alls\n|cache\nstart invalidate\n|\
+        cache\nstart iter 1\n|cache\nstart iter \n|cache\nstart iter_\n|\
         cache\nstart remove 4294967296\n|cache\nstart evict 1\n|cache\nstart evict 1 1\n|\
         cache\nstart evict 1 1 size\n|cache\nstart evict 1 1 Size \n|\
         cache\nstart evict 1 18446744073709551616 Size\n",
@@ -248,7 +249,8 @@ const FORMS: [&str; 4] = [
         start evict 3 1 Replaced => \
         Start { start: Evict { key: 3, stamp: 1, cause: Replaced } }\n\
         start evict 3 2 Size => Start { start: Evict { key: 3, stamp: 2, cause: Size } }\n\
-        start invalidate_all => Start { start: InvalidateAll }\n",
+        start invalidate_all => Start { start: InvalidateAll }\n\
+        start iter => Start { start: Iter }\n",
     // Loads.
     "start get_with 0 => Start { start: GetWith { key: 0, replace: None } }\n\
         start get_with 4294967295 if 0 => \

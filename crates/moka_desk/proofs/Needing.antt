@@ -56,6 +56,7 @@ module _ {K V E : Type 0} where
   meets_is_may w call (visit.OpenNotice n key value stamp modified cause upsert) is = along (λ m. IsNone (w.notices m)) n call is
   meets_is_may w call (visit.StampMoment n) is = along (λ m. IsNone (w.holding m) × IsUnused w m) n call is
   meets_is_may w call (visit.Judge replace key stored) is = ((λ h. h), (λ h. h))
+  meets_is_may w call (visit.Scan key stored) is = ((λ h. h), (λ h. h))
   meets_is_may w call (visit.Holds key stored cause) is = ((λ h. h), (λ h. h))
   meets_is_may w call (visit.WaitOrOwn n key kind) is =
       along (λ m. IsNone (w.owning m) × IsNone (w.joined m) × HasUnsettled w (record { key = key; kind = kind })) n call is

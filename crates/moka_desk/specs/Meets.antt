@@ -57,6 +57,7 @@ module _ {K V E : Type 0} where
   Meets w call need.OpenNotice = IsNone (w.notices call)
   Meets w call need.StampMoment = IsNone (w.holding call) × IsUnused w call
   Meets w call need.Judge = Unit {0}
+  Meets w call need.Scan = Unit {0}
   Meets w call need.Holds = Unit {0}
   Meets w call (need.WaitOrOwn load) =
       IsNone (w.owning call) × IsNone (w.joined call) × HasUnsettled w load

@@ -51,6 +51,7 @@ impl<K: Eq + Hash + Exact, V: Drop, E: Drop> Desk<K, V, E> {
             Need::UnlockKey { wrote } => self.may_unlock(call, *wrote),
             Need::StampMoment => self.may_stamp(call),
             Need::Judge => true,
+            Need::Scan => true,
             Need::Holds => true,
             Need::WaitOrOwn { load } => self.may_claim(call, load),
             Need::OwnAlone => self.loads_nothing(call),

@@ -111,6 +111,7 @@ module _ {K V E : Type 0} where
             let is : map noted old ≡ before = cc in
             ap (λ l. Some (map noted l)) s.notes
             ∙ ap (λ l. Some l) (map-append noted old ((wish, given) ∷ []) ∙ ap (λ x. map noted old ++ x ∷ []) s.is_noted ∙ ap (λ l. l ++ (access, given) ∷ []) is);
+        lists = s.lists;
         shortens = s.shortens;
       }
 
@@ -214,9 +215,9 @@ module _ {K V E : Type 0} (eq : K → K → Bool) where
   may_look n d mid bare (inr at) = subst (λ (p : List (Item K V E)). May mid (access_of n (record d { plan = p }))) (sym at.1) tt
 
   -- an empty cache has what each step of a get needs
-  pub get_is_safe : (left n : ℕ) (key : K) (r : Rules) (c : Call K V E) (w : World K V E) → c ≡ fresh_call r (start.Get key)
+  pub get_is_safe : (left n parts : ℕ) (key : K) (r : Rules) (c : Call K V E) (w : World K V E) → c ≡ fresh_call parts r (start.Get key)
       → is_disabled r ≡ false → IsBare left w → IsSafe eq n c w
-  get_is_safe left n key r c w is enabled bare = λ k d mid on.
+  get_is_safe left n parts key r c w is enabled bare = λ k d mid on.
       let whole : c.plan ≡ plan.Drain ∷ plan.Get (plan.To_show plan.As_value) key ∷ [] =
       ap (λ x. x.plan) is ∙ ap (λ b. get_plan b key) enabled in
       let on_to = looks_on k n c w d mid (record { owed = bare.owed; holding = bare.holding; stored = bare.stored }) (inl (key, whole)) on in

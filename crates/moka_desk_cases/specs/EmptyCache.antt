@@ -16,7 +16,7 @@ use Rattle.moka_hist.specs.Next.{Next}
 use Rattle.moka_hist.specs.Run.{fresh_call}
 use Rattle.moka_hist.specs.declared.rules.Rules.{Rules}
 use Rattle.moka_hist.specs.declared.events.Start.TheVariants as start
-use Rattle.moka_bound.specs.Falling.{Counts, Shortens}
+use Rattle.moka_bound.specs.Falling.{Counts, Shortens, keys_in}
 use Rattle.moka_init.specs.Forms.{HasForm}
 use Rattle.moka_init.specs.Grounds.{Account, MayWant, still_begun}
 use Rattle.moka_init.specs.Telling.{Made, TellsPoll}
@@ -41,7 +41,8 @@ pub record IsBare {K V E : Type 0} (left : ℕ) (w : World K V E) : Type 0 where
 
 -- the work that there is before a look on an empty cache
 abbrev pub bare_work : ℕ → Work
-bare_work left = record { owed = 0; logged = 0; size = 1; left = left; most = left; ended = false }
+bare_work left =
+    record { owed = 0; logged = 0; size = 1; left = left; most = left; ended = false; keys = 0 }
 
 module _ {K V E : Type 0} where
   -- on each empty cache, whichever call it is, the access may give this, and leaves an empty cache
@@ -79,7 +80,9 @@ module _ {K V E : Type 0} where
     pub gives : BareGives eq left access given left_now
     pub form : HasForm access given
     pub begins : begun ≡ still_begun access given
-    pub shortens : Shortens (bare_work left) (bare_work left_now) access given
+    pub lists : keys_in given ≤ left
+    pub shortens : (keys : ℕ) → Shortens (record (bare_work left) { keys = keys_in given + keys })
+        (record (bare_work left_now) { keys = keys }) access given
     pub notes : now ≡ before ++ (wish, given) ∷ []
     pub is_noted : noted (wish, given) ≡ (access, given)
 
@@ -98,8 +101,8 @@ module _ {K V E : Type 0} where
   -- the accesses of a whole poll of a fresh get were noted, and nothing else
   abbrev pub NotesPoll : K → List (Want K V E × Got K V E) → List (Want K V E × Got K V E) → Type 0
   NotesPoll key old new =
-      (rules : Rules) × (next : Next K V E)
-      × TellsPoll 1 (fresh_call rules (start.Get key)) next (map noted old)
+      (parts : ℕ) × (rules : Rules) × (next : Next K V E)
+      × TellsPoll 1 (fresh_call parts rules (start.Get key)) next (map noted old)
       (Some (map noted new))
 
   -- what is told of owed and logged writes, and of the owner that the call waits for

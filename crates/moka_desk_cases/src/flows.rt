@@ -7,4 +7,5 @@ mod loads;
 mod names;
 mod removals;
 mod rows;
+mod walks;
 mod writes;

@@ -86,6 +86,7 @@ module _ {K V E : Type 0} where
   MayVisit w (visit.OpenNotice call key value stamp modified cause upsert) = IsNone (w.notices call)
   MayVisit w (visit.StampMoment call) = IsNone (w.holding call) × IsUnused w call
   MayVisit w (visit.Judge replace key stored) = Unit {0}
+  MayVisit w (visit.Scan key stored) = Unit {0}
   MayVisit w (visit.Holds key stored cause) = Unit {0}
   MayVisit w (visit.WaitOrOwn call key kind) =
       IsNone (w.owning call) × IsNone (w.joined call) ×

@@ -15,6 +15,7 @@ pub mod Computing
 pub mod Writing
 pub mod Listening
 pub mod Invalidating
+pub mod Walking
 pub mod Step
 pub mod Dropping
 pub mod Telling

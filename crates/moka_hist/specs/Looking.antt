@@ -80,6 +80,7 @@ module _ {K V E : Type 0} where
   after_get c aim turn.Going = stays c
   after_get c aim (turn.Decided table.None) = misses c aim
   after_get c aim (turn.Decided (table.Some there found)) = finds_pair c aim there found
+  after_get c aim (turn.Decided (table.Keys keys)) = waits c
 
   abbrev pub after_judge : Call K V E → Aim K V → K → Stored V → Found V E → Next K V E
   after_judge c aim there stored (found.Judge true) = hits c aim there stored.value

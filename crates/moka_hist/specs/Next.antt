@@ -33,6 +33,11 @@ module _ {K V E : Type 0} where
   abbrev pub waits : Call K V E → Next K V E
   waits c = record { left = Some (record c { mode = mode.Parked }); turn = turn.Wait }
 
+  -- the walk gives a record, and is parked
+  abbrev pub gives : Call K V E → K → V → List (Item K V E) → Next K V E
+  gives c key value rest =
+      record { left = Some (record c { mode = mode.Parked; plan = rest }); turn = turn.Item key value }
+
   -- the call asks its caller, and is parked
   abbrev pub asks : Call K V E → reply.Ask K V → List (Item K V E) → Next K V E
   asks c ask rest =

@@ -1,5 +1,5 @@
 -- What a call has still to do.
-use Rattle.std.specs.Prelude.{ℕ, ◌==◌, Bool, true, false, List, [], ◌∷◌, Option, Some, None}
+use Rattle.std.specs.Prelude.{ℕ, zero, suc, ◌+◌, ◌==◌, Bool, true, false, List, [], ◌∷◌, Option, Some, None}
 use Rattle.std.specs.Option.{option_map_or}
 use Rattle.moka_hist.specs.declared.loads.Load.{Load}
 use Rattle.moka_hist.specs.declared.loads.Sought.{Sought}
@@ -95,6 +95,11 @@ pub data Item (K V E : Type 0) : Type 0 where
   Idle : Item K V E
   -- hide all records that were written before now
   Invalidate_all : Item K V E
+  -- list the keys of a part, look one of them up, and judge whether the record that was found is
+  -- visible
+  List_keys : (part : ℕ) → Item K V E
+  Find : (key : K) → Item K V E
+  Scan : (there : K) → (found : Stored V) → Item K V E
   -- answer, together with the step before
   Reply : (answer : reply.Answer K V E) → Item K V E
 
@@ -158,24 +163,42 @@ abbrev pub or_insert_plan : {K V E : Type 0} → Bool → K → V → List (Item
 or_insert_plan true key value = Drain ∷ Reply (answer.Loaded value true) ∷ []
 or_insert_plan false key value = Drain ∷ look (To_insert key value) key
 
--- the whole plan of a fresh call
-abbrev pub plan_of : {K V E : Type 0} → Rules → event.Start K V → List (Item K V E)
-plan_of rules (start.Get key) = get_plan (is_disabled rules) key
-plan_of rules (start.Insert key value) = insert_plan (is_disabled rules) rules key value
-plan_of rules (start.GetWith key replace) =
+-- list so many parts, from this one on, and end
+abbrev pub walk_from : {K V E : Type 0} → ℕ → ℕ → List (Item K V E)
+walk_from part zero = Reply answer.End ∷ []
+walk_from part (suc left) = List_keys part ∷ walk_from (part + 1) left
+
+-- the plan of a walk over so many parts
+abbrev pub iter_plan : {K V E : Type 0} → Bool → ℕ → List (Item K V E)
+iter_plan true parts = Reply answer.End ∷ []
+iter_plan false parts = walk_from 0 parts
+
+-- the whole plan of a fresh call, where the table has so many parts
+abbrev pub plan_of : {K V E : Type 0} → ℕ → Rules → event.Start K V → List (Item K V E)
+plan_of parts rules (start.Get key) = get_plan (is_disabled rules) key
+plan_of parts rules (start.Insert key value) = insert_plan (is_disabled rules) rules key value
+plan_of parts rules (start.GetWith key replace) =
     load_plan (is_disabled rules) (seek kind.GetWith key replace)
-plan_of rules (start.Optional key) = load_plan (is_disabled rules) (seek kind.Optional key None)
-plan_of rules (start.Try key) = load_plan (is_disabled rules) (seek kind.Try key None)
-plan_of rules (start.OrInsert key value) = or_insert_plan (is_disabled rules) key value
-plan_of rules (start.Compute key) = Own_key (record { key = key; takes = takes.Op }) ∷ []
-plan_of rules (start.TryCompute key) = Own_key (record { key = key; takes = takes.TryOp }) ∷ []
-plan_of rules (start.Upsert key) = Own_key (record { key = key; takes = takes.Value }) ∷ []
-plan_of rules (start.ComputeAlone key) = Own_alone key ∷ []
-plan_of rules (start.Invalidate key) = take_out rules To_invalidate key
-plan_of rules (start.Remove key) = take_out rules To_remove key
-plan_of rules (start.Evict key stamp cause) =
+plan_of parts rules (start.Optional key) = load_plan (is_disabled rules) (seek kind.Optional key None)
+plan_of parts rules (start.Try key) = load_plan (is_disabled rules) (seek kind.Try key None)
+plan_of parts rules (start.OrInsert key value) = or_insert_plan (is_disabled rules) key value
+plan_of parts rules (start.Compute key) = Own_key (record { key = key; takes = takes.Op }) ∷ []
+plan_of parts rules (start.TryCompute key) = Own_key (record { key = key; takes = takes.TryOp }) ∷ []
+plan_of parts rules (start.Upsert key) = Own_key (record { key = key; takes = takes.Value }) ∷ []
+plan_of parts rules (start.ComputeAlone key) = Own_alone key ∷ []
+plan_of parts rules (start.Invalidate key) = take_out rules To_invalidate key
+plan_of parts rules (start.Remove key) = take_out rules To_remove key
+plan_of parts rules (start.Evict key stamp cause) =
     under_lock rules.listener key (look (To_evict key stamp cause) key)
-plan_of rules start.InvalidateAll = Invalidate_all ∷ Reply answer.Done ∷ []
+plan_of parts rules start.InvalidateAll = Invalidate_all ∷ Reply answer.Done ∷ []
+plan_of parts rules start.Iter = iter_plan (is_disabled rules) parts
+
+-- a list is to be made, a key to be looked up or a record to be judged
+abbrev pub walks : {K V E : Type 0} → List (Item K V E) → Bool
+walks (List_keys part ∷ rest) = true
+walks (Find key ∷ rest) = true
+walks (Scan there found ∷ rest) = true
+walks _ = false
 
 -- the write that a call holds
 abbrev pub held_by : {K V E : Type 0} → List (Item K V E) → Option write.Write
@@ -208,6 +231,9 @@ held_by (Write key value moment ∷ rest) = held_by rest
 held_by (Out removal key ∷ rest) = held_by rest
 held_by (Idle ∷ rest) = held_by rest
 held_by (Invalidate_all ∷ rest) = held_by rest
+held_by (List_keys part ∷ rest) = held_by rest
+held_by (Find key ∷ rest) = held_by rest
+held_by (Scan there found ∷ rest) = held_by rest
 held_by (Reply answer ∷ rest) = held_by rest
 
 -- the notice that the call of this number is hearing: its own, or that of an owed write
@@ -241,4 +267,7 @@ hearing n (Write key value moment ∷ rest) = None
 hearing n (Out removal key ∷ rest) = None
 hearing n (Idle ∷ rest) = None
 hearing n (Invalidate_all ∷ rest) = None
+hearing n (List_keys part ∷ rest) = None
+hearing n (Find key ∷ rest) = None
+hearing n (Scan there found ∷ rest) = None
 hearing n (Reply answer ∷ rest) = None

@@ -1,7 +1,7 @@
 -- Runs of the reference cache on events.
-use Rattle.std.specs.Prelude.{◌<◌, ◌≡◌, ◌≢◌, ℕ, zero, suc, ◌+◌, ◌^◌, ◌-◌, ◌==◌, nat_lt, Bool, MatchBool, List, [], ◌∷◌, Some, MatchOption}
+use Rattle.std.specs.Prelude.{◌<◌, ◌≤◌, ◌≡◌, ◌≢◌, ℕ, zero, suc, ◌+◌, ◌^◌, ◌-◌, ◌==◌, nat_lt, Bool, true, MatchBool, List, [], ◌∷◌, Some, MatchOption}
 use Rattle.moka_hist.specs.Finite.{put_at}
-use Rattle.moka_hist.specs.State.{Call, DeskPart, State, fresh}
+use Rattle.moka_hist.specs.State.{Call, DeskPart, Division, State, fresh}
 use Rattle.moka_hist.specs.Plan.{plan_of}
 use Rattle.moka_hist.specs.Step.{Step}
 use Rattle.moka_hist.specs.Dropping.{dropped}
@@ -23,6 +23,13 @@ use Rattle.moka_hist.specs.declared.accesses.Turn.TheVariants as turn
 abbrev pub last_call : ℕ
 last_call = 2 ^ 64 - 1
 
+-- keys are divided into 1 to 64 parts, and equal keys are of one part
+pub record Divides {K : Type 0} (eq : K → K → Bool) (division : Division K) : Type 0 where
+  pub some : 0 < division.parts
+  pub few : division.parts ≤ 64
+  pub part : (q : K) → division.part_of q < division.parts
+  pub alike : (a b : K) → eq a b ≡ true → division.part_of a ≡ division.part_of b
+
 module _ {K V E : Type 0} where
   -- a step's reply
   abbrev pub reply_of : Turn K V E → Reply K V E
@@ -30,11 +37,13 @@ module _ {K V E : Type 0} where
   reply_of turn.Wait = reply.Wait
   reply_of (turn.Ask ask) = reply.Ask ask
   reply_of (turn.Answer answer) = reply.Answer answer
+  reply_of (turn.Item key value) = reply.Item key value
 
 module _ {K V E : Type 0} where
-  abbrev pub fresh_call : Rules → Start K V → Call K V E
-  fresh_call rules start =
-      record { rules = rules; mode = mode.Fresh; plan = plan_of rules start; aborts = 0 }
+  -- the call as it is started, where the table has so many parts
+  abbrev pub fresh_call : ℕ → Rules → Start K V → Call K V E
+  fresh_call parts rules start =
+      record { rules = rules; mode = mode.Fresh; plan = plan_of parts rules start; aborts = 0 }
 
   -- the state with this desk
   abbrev pub with_desk : State K V E → DeskPart K V E → State K V E
@@ -50,7 +59,8 @@ module _ {K V E : Type 0} where
       let n : ℕ = s.world.desk.last + 1 in
       record {
         world = record s.world { desk = record s.world.desk { last = n } };
-        calls = put_at s.calls n (Some (fresh_call s.world.desk.rules start));
+        calls = put_at s.calls n
+            (Some (fresh_call s.world.table.division.parts s.world.desk.rules start));
       }
 
   -- refused for this reason, and nothing has changed
@@ -129,13 +139,15 @@ module _ {K V E : Type 0} where
   abbrev pub Any : State K V E → Type 0
   Any s = Unit {0}
 
-  -- the state comes after some events on a fresh cache of some rules and tests with a log of some
-  -- size, at least of one write
+  -- the state comes after some events on a fresh cache of some division of its keys, some rules and
+  -- tests, with a log of some size, at least of one write
   pub record IsReached (eq : K → K → Bool) (s : State K V E) : Type 0 where
+    pub division : Division K
+    pub divides : Divides eq division
     pub rules : Rules
     pub size : ℕ
     pub tests : ℕ → K → V → Bool
     pub has_log : 0 < size
     pub events : List (Event K V E)
     pub replies : List (Reply K V E)
-    pub run : Run eq Any (fresh K V E rules size tests) events replies s
+    pub run : Run eq Any (fresh K V E division rules size tests) events replies s

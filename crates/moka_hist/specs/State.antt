@@ -13,8 +13,23 @@ use Rattle.moka_hist.specs.declared.writes.Owed.{Owed}
 use Rattle.moka_hist.specs.declared.writes.Write.{Write}
 use Rattle.moka_hist.specs.Plan.{Item}
 
+-- How a table divides its keys: into how many parts, and which part each key is of, from 0.
+pub record Division (K : Type 0) : Type 0 where
+  pub parts : ℕ
+  pub part_of : K → ℕ
+
+-- A list of the keys of a part, from its first step until it is given: those that it has to give, as
+-- they were stored all the while, and those that it may give, as they were stored at some time.
+pub record Listed (K : Type 0) : Type 0 where
+  pub part : ℕ
+  pub must : K → Bool
+  pub may : K → Bool
+
 -- What is stored.
 pub record TablePart (K V : Type 0) : Type 0 where
+  pub division : Division K
+  -- the list that a call has begun
+  pub listings : ℕ → Option (Listed K)
   -- the stored pair of a key
   pub stored : K → Option (K × Stored V)
   -- how many keys are stored, and the most that ever were
@@ -93,8 +108,16 @@ pub record State (K V E : Type 0) : Type 0 where
   pub world : World K V E
   pub calls : ℕ → Option (Call K V E)
 
-abbrev pub empty_table : (K V : Type 0) → TablePart K V
-empty_table K V = record { stored = λ _. None; keys = 0; peak = 0; committed = [] }
+abbrev pub empty_table : (K V : Type 0) → Division K → TablePart K V
+empty_table K V division =
+    record {
+      division = division;
+      listings = λ _. None;
+      stored = λ _. None;
+      keys = 0;
+      peak = 0;
+      committed = [];
+    }
 
 -- a desk by these rules, with a log of this size and these tests, where nothing has happened
 abbrev pub fresh_desk : (K V E : Type 0) → Rules → ℕ → (ℕ → K → V → Bool) → DeskPart K V E
@@ -128,11 +151,11 @@ fresh_desk K V E rules size tests =
     }
 
 -- nothing is stored, no call was started, and the clock is 0
-abbrev pub fresh : (K V E : Type 0) → Rules → ℕ → (ℕ → K → V → Bool) → State K V E
-fresh K V E rules size tests =
+abbrev pub fresh : (K V E : Type 0) → Division K → Rules → ℕ → (ℕ → K → V → Bool) → State K V E
+fresh K V E division rules size tests =
     record {
       world = record {
-        table = empty_table K V;
+        table = empty_table K V division;
         desk = fresh_desk K V E rules size tests;
         stay = record { call = 0; times = 0 };
       };

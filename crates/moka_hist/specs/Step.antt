@@ -6,7 +6,7 @@ use Rattle.moka_hist.specs.Plan.{Item, Aim}
 use Rattle.moka_hist.specs.Plan as plan
 use Rattle.moka_hist.specs.Visits.{finds, makes}
 use Rattle.moka_hist.specs.Conditions.{MayVisit}
-use Rattle.moka_hist.specs.Tables.{Operates}
+use Rattle.moka_hist.specs.Tables.{Operates, begun}
 use Rattle.moka_hist.specs.Bound.{times_of, stayed, decided_by, most_undecided}
 use Rattle.moka_hist.specs.Next.{Next, goes, waits}
 use Rattle.moka_hist.specs.Posting.{after_drain, after_post, after_turn, after_apply, after_end}
@@ -15,6 +15,7 @@ use Rattle.moka_hist.specs.Loading.{after_own, after_read, after_ask, after_told
 use Rattle.moka_hist.specs.Computing.{after_own_key, after_own_alone, after_read_key, after_ask_op, after_told_op}
 use Rattle.moka_hist.specs.Listening.{after_lock, after_unlock, after_notice, after_hearing}
 use Rattle.moka_hist.specs.Invalidating.{after_invalidate_all}
+use Rattle.moka_hist.specs.Walking.{after_list, after_find, after_scan}
 use Rattle.moka_hist.specs.Writing.{after_moment, after_write, after_out, after_idle, stamp_asked}
 use Rattle.moka_hist.specs.declared.loads.Kind.{Kind}
 use Rattle.moka_hist.specs.declared.loads.Kind.TheVariants as kind
@@ -89,6 +90,9 @@ module _ {K V E : Type 0} where
   access_for n (plan.Out removal key) = On_table (op.RemoveIf key (stamp_asked removal))
   access_for n plan.Idle = On_desk (visit.Clock n)
   access_for n plan.Invalidate_all = On_desk visit.InvalidateAll
+  access_for n (plan.List_keys part) = On_table (op.Keys part)
+  access_for n (plan.Find key) = On_table (op.Get key)
+  access_for n (plan.Scan there found) = On_desk (visit.Scan there found)
   access_for n (plan.Reply answer) = On_desk (visit.Clock n)
 
   -- the access of a call's next step: that of its first item. Where nothing is left but an answer,
@@ -112,6 +116,8 @@ module _ {K V E : Type 0} where
   after_table n c (plan.Get aim key) rest turn = after_get c aim turn
   after_table n c (plan.Write key value moment) rest turn = after_write n c key rest turn
   after_table n c (plan.Out removal key) rest turn = after_out n c removal key turn
+  after_table n c (plan.List_keys part) rest turn = after_list c rest turn
+  after_table n c (plan.Find key) rest turn = after_find c rest turn
   after_table n c _ rest turn = waits c
 
   -- How a call goes on after its visit. In each of these functions the last row is of what another
@@ -143,6 +149,9 @@ module _ {K V E : Type 0} where
   after_visit c (plan.Out removal key) rest f = waits c
   after_visit c plan.Idle rest f = after_idle c rest f
   after_visit c plan.Invalidate_all rest f = after_invalidate_all c rest f
+  after_visit c (plan.List_keys part) rest f = waits c
+  after_visit c (plan.Find key) rest f = waits c
+  after_visit c (plan.Scan there found) rest f = after_scan c there found rest f
   after_visit c (plan.Reply answer) rest f = goes c (plan.Reply answer ∷ [])
   after_visit c (plan.Get aim key) rest f = waits c
   after_visit c (plan.Write key value moment) rest f = waits c
@@ -158,13 +167,14 @@ module _ {K V E : Type 0} where
 
   -- What the world may give the call of this number for an access, and become by it. A table
   -- operation may stay undecided, which leaves the map, but not for more steps in a row than its
-  -- table may need.
+  -- table may need. A list begins with its first step, undecided or not.
   abbrev pub Gets : (K → K → Bool) → ℕ → World K V E → Access K V E → Got K V E → World K V E →
       Type 0
   Gets eq n w (On_table operation) (got.Table table.Going) new =
-      (times_of w.stay n < most_undecided w.table) × (new ≡ record w { stay = stayed w.stay n })
+      (times_of w.stay n < most_undecided w.table)
+      × (new ≡ record w { table = begun w.table n operation; stay = stayed w.stay n })
   Gets eq n w (On_table operation) (got.Table (table.Decided answer)) new =
-      (t : TablePart K V) × Operates eq n w.table operation answer t
+      (t : TablePart K V) × Operates eq n (begun w.table n operation) operation answer t
       × (new ≡ record w { table = t; stay = decided_by n })
   Gets eq n w (On_desk made) (got.Desk f) new =
       (f ≡ finds w.desk made) × (new ≡ record w { desk = makes eq w.desk made })

@@ -321,6 +321,7 @@ module _ {K V E : Type 0} where
       found.OpenNotice (cond w.off None (Some (cause_of w stamp modified cause upsert)))
   finds w (visit.StampMoment call) = found.StampMoment w.clock
   finds w (visit.Judge replace key stored) = found.Judge (is_seen w replace key stored)
+  finds w (visit.Scan key stored) = found.Scan (is_seen w None key stored)
   finds w (visit.Holds key stored cause) =
       found.Holds (chosen_holds w.rules (times_at w stored.stamp stored.modified) false cause)
   finds w (visit.WaitOrOwn call key kind) =
@@ -350,6 +351,7 @@ module _ {K V E : Type 0} where
   makes eq w (visit.StampMoment call) = stamped w call
   makes eq w (visit.Judge replace key stored) =
       judged w stored.stamp stored.modified (is_seen w replace key stored)
+  makes eq w (visit.Scan key stored) = w
   makes eq w (visit.Holds key stored cause) = w
   makes eq w (visit.WaitOrOwn call key kind) =
       let load : Load K =

@@ -57,6 +57,7 @@ module _ {K V E : Type 0} where
 abbrev pub old_stamp : {K V : Type 0} → TableAnswer K V → Option ℕ
 old_stamp table.None = None
 old_stamp (table.Some key stored) = Some stored.stamp
+old_stamp (table.Keys keys) = None
 
 module _ {K V E : Type 0} where
   -- what a moment was taken for
@@ -75,6 +76,7 @@ module _ {K V E : Type 0} where
   once_told true key table.None rest = plan.Unlock true ∷ rest
   once_told true key (table.Some there old) rest =
       plan.Notice key old None true ∷ plan.Unlock true ∷ rest
+  once_told true key (table.Keys keys) rest = plan.Unlock true ∷ rest
 
   -- the write is committed, and to be posted
   abbrev pub after_write : ℕ → Call K V E → K → List (Item K V E) → TableTurn K V → Next K V E
@@ -101,6 +103,7 @@ module _ {K V E : Type 0} where
       goes c (nothing_rest c.rules.listener removal)
   after_out n c removal key (turn.Decided (table.Some there old)) =
       goes c (removed_rest c.rules.listener n removal key old)
+  after_out n c removal key (turn.Decided (table.Keys keys)) = waits c
 
   abbrev pub after_idle : Call K V E → List (Item K V E) → Found V E → Next K V E
   after_idle c rest (found.Clock moment) = goes c rest

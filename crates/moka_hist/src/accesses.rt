@@ -19,14 +19,15 @@ pub enum Got<K, V, E> {
     Desk(Found<V, E>),
 }
 
-/// How a step leaves its call: it goes on, it waits for something missing, it asks, or it has
-/// answered.
+/// How a step leaves its call: it goes on, it waits for something missing, it asks, it has answered,
+/// or, of a walk, it gives a record.
 #[derive(Drop)]
 pub enum Turn<K, V, E> {
     Going,
     Wait,
     Ask(Ask<K, V>),
     Answer(Answer<K, V, E>),
+    Item(K, V),
 }
 
 impl<K, V, E> Turn<K, V, E> {
@@ -39,6 +40,7 @@ impl<K, V, E> Turn<K, V, E> {
             Turn::Wait => false,
             Turn::Ask(_) => false,
             Turn::Answer(_) => false,
+            Turn::Item(_, _) => false,
         }
     }
 }

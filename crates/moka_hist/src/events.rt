@@ -27,6 +27,8 @@ pub enum Start<K, V> {
     Evict { key: K, stamp: u64, cause: Cause },
     /// No look shows a record any more that was written before the clock. Nothing is taken out.
     InvalidateAll,
+    /// A walk: gives each record that is visible as the walk comes to it, part by part of the table.
+    Iter,
 }
 
 /// What a compute is told to do: nothing, to store a value, or to take the record out.

@@ -38,6 +38,8 @@ pub enum Answer<K, V, E> {
     /// The record stays, or left by another call: the key is absent, its record is another, or the
     /// cause doesn't hold.
     Kept,
+    /// A walk has given all its records.
+    End,
 }
 
 /// Why an event was refused. A refused event changes nothing.
@@ -64,6 +66,8 @@ pub enum Reply<K, V, E> {
     Wait,
     Ask(Ask<K, V>),
     Answer(Answer<K, V, E>),
+    /// A walk gives a record: its key and its value.
+    Item(K, V),
     Told,
     Dropped,
     Refused(Refusal),

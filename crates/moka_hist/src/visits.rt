@@ -73,6 +73,11 @@ pub enum Visit<K, V, E> {
         key: K,
         stored: Stored<V>,
     },
+    /// Judges whether a record that a walk found is visible, and changes nothing.
+    Scan {
+        key: K,
+        stored: Stored<V>,
+    },
     /// Judges whether a record that was chosen to leave for this cause has still to.
     Holds {
         key: K,
@@ -151,6 +156,7 @@ pub enum Found<V, E> {
     UnlockKey,
     StampMoment(u64),
     Judge(bool),
+    Scan(bool),
     Holds(bool),
     WaitOrOwn(Claim),
     /// Whether another call is the owner.

@@ -51,6 +51,8 @@ module _ {K V E : Type 0} where
   stays_or_parks n r m (plan.Get aim key ∷ rest) aborts = inl (record { operation = op.Get key; access = refl; next = refl })
   stays_or_parks n r m (plan.Write key value moment ∷ rest) aborts = inl (record { operation = _; access = refl; next = refl })
   stays_or_parks n r m (plan.Out removal key ∷ rest) aborts = inl (record { operation = _; access = refl; next = refl })
+  stays_or_parks n r m (plan.List_keys part ∷ rest) aborts = inl (record { operation = op.Keys part; access = refl; next = refl })
+  stays_or_parks n r m (plan.Find key ∷ rest) aborts = inl (record { operation = op.Get key; access = refl; next = refl })
   stays_or_parks n r m [] aborts = inr (record { made = _; access = refl; next = refl })
   stays_or_parks n r m (_ ∷ rest) aborts = inr (record { made = _; access = refl; next = refl })
 

@@ -1,8 +1,11 @@
 pub mod Asking
 pub mod Begun
 pub mod Same
+pub mod Starting
 pub mod AtPoint
 pub mod Going
 pub mod Told
+pub mod Walks
+pub mod Lists
 pub mod Near
 pub mod Still

@@ -50,10 +50,12 @@ module _ {K V E : Type 0} where
       option_map (λ test. found.value) (replace_of aim)
   tested_in _ = None
 
-  -- the plan's first item judges a record that a look found
+  -- the plan's first item judges a record that a look found; one of a walk raises no moment, but
+  -- judges by the one that is kept
   abbrev pub carries_in : List (Item K V E) → Bool
   carries_in (plan.Judge aim key found ∷ rest) = true
   carries_in (plan.Holds key stamp cause there found ∷ rest) = true
+  carries_in (plan.Scan there found ∷ rest) = true
   carries_in _ = false
 
   -- the plan's first item takes the answer to its call's own ask
@@ -83,6 +85,7 @@ module _ {K V E : Type 0} where
   left_in turn.Wait flow = Some (call_of flow)
   left_in (turn.Ask ask) flow = Some (call_of flow)
   left_in (turn.Answer answer) flow = None
+  left_in (turn.Item key value) flow = Some (call_of flow)
 
   abbrev pub next_in : Turn K V E → Flow K V E → Next K V E
   next_in t flow = record { left = left_in t flow; turn = t }
@@ -113,6 +116,7 @@ module _ {K V E : Type 0} where
   Leaves turn.Wait flow = IsLive flow
   Leaves (turn.Ask ask) flow = IsLive flow
   Leaves (turn.Answer answer) flow = IsOver flow
+  Leaves (turn.Item key value) flow = IsLive flow
 
   -- The flow stands for what it stood for: the same call under the same number, with the same
   -- operation begun.
@@ -139,6 +143,7 @@ module _ {K V E : Type 0} where
   IsCopied (point.Writing p) = Unit {0}
   IsCopied (point.Removing p) = Unit {0}
   IsCopied (point.Listening p) = is_copied_in p ≡ true
+  IsCopied (point.Walking p) = Unit {0}
   IsCopied point.InvalidatingAll = Unit {0}
   IsCopied (point.Answering answer) = Unit {0}
   IsCopied point.Spent = Unit {0}

@@ -26,6 +26,7 @@ module _ {K V E : Type 0} where
       (cause : Option Cause) × (f ≡ found.OpenNotice cause)
   IsFoundBy (visit.StampMoment n) f = (moment : ℕ) × (f ≡ found.StampMoment moment)
   IsFoundBy (visit.Judge replace key stored) f = (seen : Bool) × (f ≡ found.Judge seen)
+  IsFoundBy (visit.Scan key stored) f = (seen : Bool) × (f ≡ found.Scan seen)
   IsFoundBy (visit.Holds key stored cause) f = (holds : Bool) × (f ≡ found.Holds holds)
   IsFoundBy (visit.WaitOrOwn n key kind) f = (claim : Claim) × (f ≡ found.WaitOrOwn claim)
   IsFoundBy (visit.OwnAlone n key) f = (owned : Bool) × (f ≡ found.OwnAlone owned)

@@ -1,8 +1,9 @@
 -- What a flow stands on.
-use Rattle.std.specs.Prelude.{◌≡◌, ℕ, Bool, true, false, List, [], ◌∷◌, ◌++◌, Option, Some, None}
+use Rattle.std.specs.Prelude.{◌≡◌, ◌≤◌, ℕ, suc, ◌+◌, ◌*◌, Bool, true, false, List, [], ◌∷◌, ◌++◌, Option, Some, None}
 use Rattle.std.specs.Prelude.{MatchOption}
 use Rattle.moka_hist.specs.State.{DeskPart, World}
 use Rattle.moka_hist.specs.Plan.{Item}
+use Rattle.moka_hist.specs.Plan as plan
 use Rattle.moka_hist.specs.Visits.{is_free_for, is_running}
 use Rattle.moka_hist.specs.Step.{Access, Gets, access_of, want_for, May}
 use Rattle.moka_hist.specs.Step as step
@@ -19,7 +20,7 @@ use Rattle.moka_hist.specs.declared.accesses.Want.TheVariants as want
 use Rattle.moka_hist.specs.declared.accesses.Got.{Got}
 use Rattle.moka_hist.specs.declared.accesses.Got.TheVariants as got
 use Rattle.moka_bound.specs.Ahead.{Work}
-use Rattle.moka_bound.specs.Falling.{Shortens}
+use Rattle.moka_bound.specs.Falling.{Shortens, keys_in}
 use Rattle.moka_init.specs.FlowPlan.{call_of, standing}
 use Rattle.moka_init.specs.Forms.{HasForm}
 use Rattle.moka_init.specs.declared.flow.Flow.{Flow}
@@ -37,7 +38,8 @@ pub record Account (K V E : Type 0) : Type 0 where
   -- the accesses that were made there with what they gave, where it can tell them
   pub made : Option (List (Access K V E × Got K V E))
   -- What the length of the call's way depends on there: how many writes are owed and logged, and
-  -- for how many steps its table operation may stay undecided.
+  -- for how many steps its table operation may stay undecided. How many keys its lists may still
+  -- give is for the flow to say.
   pub work : Work
 
 -- memory may be wanting to tell those that wait how an owner ended: it is copied
@@ -78,6 +80,7 @@ module _ {K V E : Type 0} where
   VisitTakesCopies (visit.OpenNotice n key value stamp modified cause upsert) = Unit {0}
   VisitTakesCopies (visit.StampMoment n) = ⊥
   VisitTakesCopies (visit.Judge replace key stored) = Unit {0}
+  VisitTakesCopies (visit.Scan key stored) = Unit {0}
   VisitTakesCopies (visit.Holds key stored cause) = Unit {0}
   VisitTakesCopies (visit.WaitOrOwn n key kind) = Unit {0}
   VisitTakesCopies (visit.OwnAlone n key) = Unit {0}
@@ -109,6 +112,7 @@ module _ {K V E : Type 0} where
   VisitNeedsMemory w (visit.OpenNotice n key value stamp modified cause upsert) = Unit {0}
   VisitNeedsMemory w (visit.StampMoment n) = Unit {0}
   VisitNeedsMemory w (visit.Judge replace key stored) = Unit {0}
+  VisitNeedsMemory w (visit.Scan key stored) = Unit {0}
   VisitNeedsMemory w (visit.Holds key stored cause) = Unit {0}
   VisitNeedsMemory w (visit.WaitOrOwn n key kind) = Unit {0}
   VisitNeedsMemory w (visit.OwnAlone n key) = Unit {0}
@@ -193,8 +197,23 @@ module _ {K V E : Type 0} where
     pub begun : new.begun ≡ still_begun access given
     -- exactly this access is told
     pub tells : TellsMade old.made access given new.made
-    -- an undecided step is followed by fewer
-    pub shortens : Shortens old.work new.work access given
+    -- a list gives no more keys than an operation may stay undecided for steps
+    pub lists : keys_in given ≤ old.work.most
+    -- an undecided step is followed by fewer, whatever later lists may give
+    pub shortens : (keys : ℕ) → Shortens (record old.work { keys = keys_in given + keys })
+        (record new.work { keys = keys }) access given
+
+  -- how many lists the plan has still to make
+  abbrev pub lists_in : List (Item K V E) → ℕ
+  lists_in [] = 0
+  lists_in (plan.List_keys part ∷ rest) = suc (lists_in rest)
+  lists_in (item ∷ rest) = lists_in rest
+
+  -- the work that is before the flow's call there: each list that it has still to make may give as
+  -- many keys as an operation may stay undecided for steps
+  abbrev pub work_for : Account K V E → Flow K V E → Work
+  work_for account flow =
+      record account.work { keys = lists_in (call_of flow).plan * account.work.most }
 
   -- memory was wanting for the access: in each world that the ground stood for and that allows it,
   -- it may be

@@ -1,6 +1,6 @@
 -- What a call has still to do, by where it stands.
-use Rattle.std.specs.Prelude.{Bool, true, false, List, [], ◌∷◌, Some, None}
-use Rattle.moka_hist.specs.Plan.{Item, Aim, end_load}
+use Rattle.std.specs.Prelude.{◌+◌, ◌-◌, Bool, true, false, List, [], ◌∷◌, ◌++◌, map, Some, None}
+use Rattle.moka_hist.specs.Plan.{Item, Aim, end_load, walk_from}
 use Rattle.moka_hist.specs.Plan as plan
 use Rattle.moka_hist.specs.Writing.{nothing_answer, said}
 use Rattle.moka_hist.specs.Entries.{entry, unchanged}
@@ -51,6 +51,10 @@ use Rattle.moka_init.specs.declared.points.Removing.{Removing}
 use Rattle.moka_init.specs.declared.points.Removing.TheVariants as removing
 use Rattle.moka_init.specs.declared.points.Listening.{Listening}
 use Rattle.moka_init.specs.declared.points.Listening.TheVariants as listening
+use Rattle.moka_init.specs.declared.points.Part.{Part}
+use Rattle.moka_init.specs.declared.points.PartKeys.{PartKeys}
+use Rattle.moka_init.specs.declared.points.Walk.{Walk}
+use Rattle.moka_init.specs.declared.points.Walk.TheVariants as walk
 use Rattle.moka_init.specs.declared.points.Point.{Point}
 use Rattle.moka_init.specs.declared.points.Point.TheVariants as point
 
@@ -259,6 +263,19 @@ module _ {K V E : Type 0} where
       posted_rest (posted_with then key old.value)
   listening_plan (listening.Release t) = plan.Unlock false ∷ says_nothing t
 
+  -- the parts after this one are listed
+  abbrev pub later_parts : Part → List (Item K V E)
+  later_parts part = walk_from (part.number + 1) (part.last - part.number)
+
+  -- the keys that are left are looked up, and then the later parts are listed
+  abbrev pub keys_rest : PartKeys K → List (Item K V E)
+  keys_rest rest = map plan.Find rest.keys ++ later_parts rest.part
+
+  abbrev pub walking_plan : Walk K V → List (Item K V E)
+  walking_plan (walk.List part) = plan.List_keys part.number ∷ later_parts part
+  walking_plan (walk.Find key rest) = plan.Find key ∷ keys_rest rest
+  walking_plan (walk.Scan key stored rest) = plan.Scan key stored ∷ keys_rest rest
+
   -- what a call that stands there has still to do
   abbrev pub plan_at : Point K V E → List (Item K V E)
   plan_at (point.Posting p) = posting_plan p
@@ -268,6 +285,7 @@ module _ {K V E : Type 0} where
   plan_at (point.Writing p) = writing_plan p
   plan_at (point.Removing p) = removing_plan p
   plan_at (point.Listening p) = listening_plan p
+  plan_at (point.Walking p) = walking_plan p
   plan_at point.InvalidatingAll = plan.Invalidate_all ∷ plan.Reply answer.Done ∷ []
   plan_at (point.Answering answer) = plan.Reply answer ∷ []
   plan_at point.Spent = []
@@ -301,6 +319,7 @@ module _ {K V E : Type 0} where
   is_copied (point.Writing p) = true
   is_copied (point.Removing p) = true
   is_copied (point.Listening p) = is_copied_in p
+  is_copied (point.Walking p) = true
   is_copied point.InvalidatingAll = true
   is_copied (point.Answering answer) = true
   is_copied point.Spent = true

@@ -6,7 +6,7 @@ use Rattle.moka_hist.specs.State.{World}
 use Rattle.moka_hist.specs.Step.{Access, CallMoves, MovesOn, Polled, IsSafe, May}
 use Rattle.moka_bound.specs.Ahead.{ahead}
 use Rattle.moka_init.specs.FlowPlan.{call_of}
-use Rattle.moka_init.specs.Grounds.{Account, TakesCopies, access_at}
+use Rattle.moka_init.specs.Grounds.{Account, TakesCopies, access_at, work_for}
 use Rattle.moka_init.specs.Telling.{Made, TellsSteps}
 use Rattle.moka_init.specs.declared.flow.Flow.{Flow}
 
@@ -63,4 +63,4 @@ module _ {K V E : Type 0} where
   abbrev pub Nears : Worlds K V E → Account K V E → Flow K V E → Account K V E → Flow K V E → Type 0
   Nears stood old flow new on =
       (w : World K V E) → stood w → May w (access_at flow) → 0 < w.desk.size
-      → ahead new.work (call_of on) < ahead old.work (call_of flow)
+      → ahead (work_for new on) (call_of on) < ahead (work_for old flow) (call_of flow)

@@ -11,7 +11,7 @@ ghost use Rattle.moka_init.specs.FlowPlan.{carries_in, opening, owed_in, takes_t
 use crate::copies::replace_of;
 use crate::flow::Flow;
 use crate::points::{
-    Computing, Listening, Loading, Look, Looking, Point, PostStep, Posted, Posting, Removing,
+    Computing, Listening, Loading, Look, Looking, Point, PostStep, Posted, Posting, Removing, Walk,
 };
 use moka_hist::{Cause, Kind, Mode, Owed, Rules, Start, Stored, Visit, Write};
 use moka_values::Exact;
@@ -21,10 +21,10 @@ impl<K: Drop, V: Drop, E: Drop> Flow<K, V, E> {
     ghost use Rattle.moka_hist.specs.Run.{fresh_call};
     ghost use Rattle.moka_init.specs.FlowPlan.{call_of, IsLive, IsReady};
 
-    /// Makes the fresh flow of a start, under this number, in a cache of these rules. It takes no
-    /// memory.
-    pub fn new(start: Start<K, V>, call: u64, rules: Rules) -> Self
-        ensures call { call_of result ≡ fresh_call rules start }
+    /// Makes the fresh flow of a start, under this number, in a cache of these rules whose table has
+    /// so many parts. It takes no memory.
+    pub fn new(start: Start<K, V>, call: u64, rules: Rules, parts: usize) -> Self
+        ensures call { call_of result ≡ fresh_call parts rules start }
         ensures number { result.call ≡ call }
         ensures begun { result.begun ≡ false }
         ensures live { IsLive result }
@@ -36,7 +36,7 @@ impl<K: Drop, V: Drop, E: Drop> Flow<K, V, E> {
             mode: Mode::Fresh,
             aborts: 0,
             begun: false,
-            point: Point::first(rules, start),
+            point: Point::first(parts, rules, start),
         }
     }
 }
@@ -85,13 +85,15 @@ impl<K, V, E> Flow<K, V, E> {
         }
     }
 
-    /// Whether the call carries a record: its next visit judges one that its last look found.
+    /// Whether the call carries a record: its next visit judges one that its last look found. A walk
+    /// raises no moment, but judges by the one that is kept, so that must stay until then.
     pub fn carries(&self) -> bool
         ensures { result ≡ carries_in (call_of self.now).plan }
     {
         match &self.point {
             Point::Looking(Looking::Judge { .. }) => true,
             Point::Removing(Removing::Holds { .. }) => true,
+            Point::Walking(Walk::Scan { .. }) => true,
             _ => false,
         }
     }
@@ -142,6 +144,7 @@ impl<K, V, E> Flow<K, V, E> {
             }),
             Point::Listening(Listening::Notice { write, .. }) => Some(unheard(*write)),
             Point::Listening(Listening::Uncopied { write, .. }) => Some(unheard(*write)),
+            Point::Walking(_) => None,
             _ => None,
         }
     }

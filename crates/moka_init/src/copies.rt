@@ -146,6 +146,28 @@ pub(crate) fn want_judge<K: Exact, V: Exact, E>(
     }))
 }
 
+/// Lists the keys of the part.
+pub(crate) fn want_list<K, V, E>(begun: bool, part: usize) -> Want<K, V, E>
+    ensures { result ≡ want_for begun (On_table (TableOp.Keys part)) }
+{
+    if begun {
+        return Want::Table;
+    }
+    Want::Begin(TableOp::Keys { part })
+}
+
+/// Judges whether a record that a walk found is visible.
+pub(crate) fn want_scan<K: Exact, V: Exact, E>(
+    key: &K,
+    stored: &Stored<V>,
+) -> Result<Want<K, V, E>, AllocError>
+    ensures { IfOk result (λ want. want ≡ Want.Desk (Visit.Scan key.now stored.now)) }
+{
+    let key = key.clone()?;
+    let stored = stored.clone()?;
+    Ok(Want::Desk(Visit::Scan { key, stored }))
+}
+
 /// The pair that was found, of which the ask gives out a copy.
 pub(crate) fn found_copy<K: Exact, V: Exact>(
     found: &Option<(K, V)>,

@@ -11,7 +11,9 @@ ghost use Rattle.moka_init.specs.Forms.{HasForm, IsFoundBy};
 ghost use Rattle.moka_init.specs.Grounds.{access_at};
 
 use crate::flow::Flow;
-use crate::points::{Computing, Listening, Loading, Looking, Point, Posting, Removing, Writing};
+use crate::points::{
+    Computing, Listening, Loading, Looking, Point, Posting, Removing, Walk, Writing,
+};
 use moka_hist::{Answer, Found, Got, TableTurn, Turn};
 use std::mem;
 
@@ -25,6 +27,7 @@ impl<K: Drop, V: Drop, E: Drop> Flow<K, V, E> {
     ghost use Rattle.moka_init.specs.declared.points.Looking.{Looking};
     ghost use Rattle.moka_init.specs.declared.points.Posting.{Posting};
     ghost use Rattle.moka_init.specs.declared.points.Removing.{Removing};
+    ghost use Rattle.moka_init.specs.declared.points.Walk.{Walk};
     ghost use Rattle.moka_init.specs.declared.points.Writing.{Writing};
 
     // After a visit, where the call stands at its posting.
@@ -121,6 +124,19 @@ impl<K: Drop, V: Drop, E: Drop> Flow<K, V, E> {
         }
     }
 
+    // After a visit, where the call stands at its walking.
+    pub(crate) fn walking_visited(&mut self, found: Found<V, E>) -> Turn<K, V, E>
+        requires there { (walk : Walk K V) × (self.old.point ≡ Point.Walking walk) }
+        requires form { HasForm (access_at self.old) (Got.Desk found) }
+        ensures { GoesOn self.old (next_of self.old.call (call_of self.old) (Got.Desk found))
+            result self.new }
+    {
+        match self.point_out() {
+            Point::Walking(walk) => self.after_walking(walk, found),
+            _ => unreachable!(),
+        }
+    }
+
     // After its one visit, where the call invalidates all.
     pub(crate) fn invalidating_visited(&mut self, found: Found<V, E>) -> Turn<K, V, E>
         requires there { self.old.point ≡ Point.InvalidatingAll }
@@ -213,6 +229,20 @@ impl<K: Drop, V: Drop, E: Drop> Flow<K, V, E> {
         match self.point_out() {
             Point::Removing(Removing::Find(chosen)) => self.after_find(chosen, turn),
             Point::Removing(Removing::Out(out)) => self.after_out(out, turn),
+            _ => unreachable!(),
+        }
+    }
+
+    // After a step of a table operation, where the call stands at its walking.
+    pub(crate) fn walking_stepped(&mut self, turn: TableTurn<K, V>) -> Turn<K, V, E>
+        requires there { (walk : Walk K V) × (self.old.point ≡ Point.Walking walk) }
+        requires form { HasForm (access_at self.old) (Got.Table turn) }
+        ensures { GoesOn self.old (next_of self.old.call (call_of self.old) (Got.Table turn))
+            result self.new }
+    {
+        match self.point_out() {
+            Point::Walking(Walk::List(part)) => self.after_list(part, turn),
+            Point::Walking(Walk::Find { key, rest }) => self.after_look_up(key, rest, turn),
             _ => unreachable!(),
         }
     }

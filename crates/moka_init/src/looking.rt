@@ -43,6 +43,9 @@ impl<K: Drop, V: Drop, E: Drop> Flow<K, V, E> {
             TableTurn::Decided(TableAnswer::Some { key, stored }) => {
                 self.goes(Point::Looking(Looking::Judge { look, key, stored }))
             }
+            TableTurn::Decided(TableAnswer::Keys(_)) => {
+                self.waits(Point::Looking(Looking::Get(look)))
+            }
         }
     }
 

@@ -4,13 +4,13 @@ ghost use Rattle.moka_init.specs.Grounds.{access_at, access_from};
 ghost use Rattle.moka_init.specs.Needs.{is_claim, need_at};
 ghost use Rattle.moka_init.specs.PointPlan.{settled_of, posting_plan, looking_plan, loading_plan};
 ghost use Rattle.moka_init.specs.PointPlan.{computing_plan, writing_plan, removing_plan};
-ghost use Rattle.moka_init.specs.PointPlan.{listening_plan};
+ghost use Rattle.moka_init.specs.PointPlan.{listening_plan, walking_plan};
 ghost use Rattle.moka_needs.specs.Needs.{ending_of};
 
 use crate::flow::Flow;
 use crate::points::{
     Computing, Ending as Ends, Listening, Loading, Looking, Point, PostStep, Posted, Posting,
-    Removing, Writing,
+    Removing, Walk, Writing,
 };
 use moka_hist::{Kind, Load, Write};
 use moka_needs::{Ending, Need};
@@ -33,6 +33,7 @@ impl<K: Exact, V, E> Flow<K, V, E> {
             Point::Writing(writing) => Ok(self.writing_need(writing)),
             Point::Removing(removing) => Ok(self.removing_need(removing)),
             Point::Listening(listening) => Ok(Some(self.listening_need(listening))),
+            Point::Walking(walk) => Ok(self.walking_need(walk)),
             Point::InvalidatingAll => Ok(Some(Need::InvalidateAll)),
             Point::Answering(_) => Ok(Some(Need::Clock)),
             Point::Spent => Ok(Some(Need::Clock)),
@@ -120,6 +121,16 @@ impl<K: Exact, V, E> Flow<K, V, E> {
             Listening::Notice { .. } => Need::OpenNotice,
             Listening::Uncopied { .. } => Need::OpenNotice,
             Listening::Release(_) => Need::UnlockKey { wrote: false },
+        }
+    }
+
+    fn walking_need(&self, walk: &Walk<K, V>) -> Option<Need<K>>
+        ensures { result ≡ need_at (access_from self.now (walking_plan walk.now)) }
+    {
+        match walk {
+            Walk::List(_) => None,
+            Walk::Find { .. } => None,
+            Walk::Scan { .. } => Some(Need::Scan),
         }
     }
 }

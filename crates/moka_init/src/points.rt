@@ -4,6 +4,7 @@
 //! These types are public for one reason: a crate whose states hold a `Flow` beside a borrow has to
 //! name all that lies in it. Nothing but a `Flow` makes or reads them.
 
+use crate::keys_left::KeysLeft;
 use moka_hist::{Answer, Cause, CompResult, Load, Sought, Stored, Write};
 
 /// What the ask of a compute takes.
@@ -289,6 +290,36 @@ pub enum Listening<K, V> {
     Release(TakeOut<K>),
 }
 
+/// A part of the table, by its number from 0, and the number of the last part.
+#[derive(Clone, Copy)]
+pub struct Part {
+    pub number: usize,
+    pub last: usize,
+}
+
+/// The listed keys that a walk has still to look up, and the part that they are of.
+#[derive(Drop)]
+pub struct PartKeys<K> {
+    pub keys: KeysLeft<K>,
+    pub part: Part,
+}
+
+/// Walking over the records: listing the keys of a part, looking each of them up, and judging the
+/// record that was found. The later parts follow.
+#[derive(Drop)]
+pub enum Walk<K, V> {
+    List(Part),
+    Find {
+        key: K,
+        rest: PartKeys<K>,
+    },
+    Scan {
+        key: K,
+        stored: Stored<V>,
+        rest: PartKeys<K>,
+    },
+}
+
 /// Where a call stands.
 #[derive(Drop)]
 pub enum Point<K, V, E> {
@@ -299,9 +330,10 @@ pub enum Point<K, V, E> {
     Writing(Writing<K, V>),
     Removing(Removing<K, V>),
     Listening(Listening<K, V>),
+    Walking(Walk<K, V>),
     /// All records are invalidated, which is answered with that step.
     InvalidatingAll,
-    /// Nothing is left but this answer: the cache is disabled.
+    /// Nothing is left but this answer: the cache is disabled, or a walk has given its last record.
     Answering(Answer<K, V, E>),
     /// The call has answered.
     Spent,

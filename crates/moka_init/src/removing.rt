@@ -56,6 +56,9 @@ impl<K: Drop, V: Drop, E: Drop> Flow<K, V, E> {
             TableTurn::Decided(TableAnswer::Some { key, stored }) => {
                 self.finds(chosen, key, stored)
             }
+            TableTurn::Decided(TableAnswer::Keys(_)) => {
+                self.waits(Point::Removing(Removing::Find(chosen)))
+            }
         }
     }
 
@@ -130,6 +133,9 @@ impl<K: Drop, V: Drop, E: Drop> Flow<K, V, E> {
             TableTurn::Going => self.goes(Point::Removing(Removing::Out(out))),
             TableTurn::Decided(TableAnswer::None) => self.finds_nothing(out),
             TableTurn::Decided(TableAnswer::Some { stored, .. }) => self.removes(out, stored),
+            TableTurn::Decided(TableAnswer::Keys(_)) => {
+                self.waits(Point::Removing(Removing::Out(out)))
+            }
         }
     }
 

@@ -2,13 +2,14 @@
 
 ghost use Rattle.std.specs.Prelude.{◌≡◌, [], ◌∷◌};
 ghost use Rattle.moka_hist.specs.Plan as plan;
-ghost use Rattle.moka_hist.specs.Plan.{is_disabled, get_plan, insert_plan, load_plan, plan_of, put};
-ghost use Rattle.moka_hist.specs.Plan.{or_insert_plan, seek, take_out, under_lock, look, To_evict};
+ghost use Rattle.moka_hist.specs.Plan.{is_disabled, get_plan, insert_plan, iter_plan, load_plan};
+ghost use Rattle.moka_hist.specs.Plan.{or_insert_plan, plan_of, put, seek, take_out, under_lock};
+ghost use Rattle.moka_hist.specs.Plan.{look, walk_from, To_evict};
 ghost use Rattle.moka_init.specs.PointPlan.{plan_at, put_rest, removal_at, removal_of, takes_by};
 
 use crate::points::{
-    Asks, Chosen, Computing, Drained, KeyCompute, Listening, Locked, Look, Point, Posting, Put,
-    Removal, Removing, TakeOut, Then,
+    Asks, Chosen, Computing, Drained, KeyCompute, Listening, Locked, Look, Part, Point, Posting,
+    Put, Removal, Removing, TakeOut, Then, Walk,
 };
 use moka_hist::{Answer, Kind, Load, Rules, Sought, Start};
 
@@ -23,9 +24,9 @@ pub(crate) fn is_disabled(rules: Rules) -> bool
 }
 
 impl<K: Drop, V: Drop, E: Drop> Point<K, V, E> {
-    /// Where a fresh call stands.
-    pub(crate) fn first(rules: Rules, start: Start<K, V>) -> Self
-        ensures { plan_at result ≡ plan_of rules start }
+    /// Where a fresh call stands, in a cache whose table has so many parts.
+    pub(crate) fn first(parts: usize, rules: Rules, start: Start<K, V>) -> Self
+        ensures { plan_at result ≡ plan_of parts rules start }
     {
         match start {
             Start::Get { key } => Point::get(is_disabled(rules), key),
@@ -44,6 +45,30 @@ impl<K: Drop, V: Drop, E: Drop> Point<K, V, E> {
                 Point::evict(rules.listener, Chosen { key, stamp, cause })
             }
             Start::InvalidateAll => Point::InvalidatingAll,
+            Start::Iter => Point::walk(is_disabled(rules), parts),
+        }
+    }
+
+    // A disabled cache has no records.
+    fn walk(disabled: bool, parts: usize) -> Self
+        ensures { plan_at result ≡ iter_plan disabled parts }
+    {
+        if disabled {
+            Point::Answering(Answer::End)
+        } else {
+            Point::walk_over(parts)
+        }
+    }
+
+    // So many parts are listed.
+    fn walk_over(parts: usize) -> Self
+        ensures { plan_at result ≡ walk_from 0 parts }
+    {
+        if parts == 0 {
+            Point::Answering(Answer::End)
+        } else {
+            let last = parts - 1;
+            Point::Walking(Walk::List(Part { number: 0, last }))
         }
     }
 

@@ -67,6 +67,16 @@ impl<K: Drop, V: Drop, E: Drop> Flow<K, V, E> {
         Turn::Ask(ask)
     }
 
+    // The walk gives a record, and is parked at the point.
+    pub(crate) fn gives(&mut self, key: K, value: V, point: Point<K, V, E>) -> Turn<K, V, E>
+        ensures turn { result ≡ Turn.Item key value }
+        ensures flow { self.new ≡ record self.old { mode = Mode.Parked; point = point } }
+    {
+        self.mode = Mode::Parked;
+        self.stands_at(point);
+        Turn::Item(key, value)
+    }
+
     // The call has answered.
     pub(crate) fn answers(&mut self, answer: Answer<K, V, E>) -> Turn<K, V, E>
         ensures turn { result ≡ Turn.Answer answer }
@@ -93,6 +103,7 @@ impl<K: Drop, V: Drop, E: Drop> Flow<K, V, E> {
             Point::Looking(_) => self.looking_stepped(turn),
             Point::Writing(_) => self.writing_stepped(turn),
             Point::Removing(_) => self.removing_stepped(turn),
+            Point::Walking(_) => self.walking_stepped(turn),
             _ => unreachable!(),
         }
     }
@@ -113,6 +124,7 @@ impl<K: Drop, V: Drop, E: Drop> Flow<K, V, E> {
             Point::Writing(_) => self.writing_visited(found),
             Point::Removing(_) => self.removing_visited(found),
             Point::Listening(_) => self.listening_visited(found),
+            Point::Walking(_) => self.walking_visited(found),
             Point::InvalidatingAll => self.invalidating_visited(found),
             Point::Answering(_) => self.answering_visited(found),
             Point::Spent => unreachable!(),

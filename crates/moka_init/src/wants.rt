@@ -6,18 +6,18 @@ ghost use Rattle.moka_init.specs.FlowPlan.{call_of, standing, IsLive, IsReady, S
 ghost use Rattle.moka_init.specs.Grounds.{access_at, access_from, wish_for, wish_of, TakesCopies};
 ghost use Rattle.moka_init.specs.PointPlan.{posting_plan, looking_plan, loading_plan};
 ghost use Rattle.moka_init.specs.PointPlan.{computing_plan, writing_plan, removing_plan};
-ghost use Rattle.moka_init.specs.PointPlan.{compute_of, is_copied, listening_plan};
+ghost use Rattle.moka_init.specs.PointPlan.{compute_of, is_copied, listening_plan, walking_plan};
 
 use crate::computing::{removed_as, stored_as};
 use crate::copies::{
     found_copy, key_locked, key_sought, pair_copy, replace_of, takes_of, want_get, want_holds,
-    want_judge, want_lock, want_notice, want_out, want_own, want_own_alone, want_own_key,
-    want_settle, want_write,
+    want_judge, want_list, want_lock, want_notice, want_out, want_own, want_own_alone,
+    want_own_key, want_scan, want_settle, want_write,
 };
 use crate::flow::Flow;
 use crate::points::{
     Computing, KeyCompute, Listening, Loading, Looking, Point, PostStep, Posted, Posting, Removing,
-    Uncopied, Writing,
+    Uncopied, Walk, Writing,
 };
 use moka_hist::{Settled, Stored, Visit, Want, Write};
 use moka_values::Exact;
@@ -259,6 +259,7 @@ impl<K: Exact, V: Exact, E: Exact> Flow<K, V, E> {
             Point::Writing(writing) => self.want_writing(writing),
             Point::Removing(removing) => self.want_removing(removing),
             Point::Listening(listening) => self.want_listening(listening),
+            Point::Walking(walk) => self.want_walking(walk),
             Point::InvalidatingAll => Ok(Want::Desk(Visit::InvalidateAll)),
             Point::Answering(_) => Ok(Want::Desk(Visit::Clock { call: self.call })),
             Point::Spent => unreachable!(),
@@ -379,6 +380,17 @@ impl<K: Exact, V: Exact, E: Exact> Flow<K, V, E> {
                 want_notice(call, key, old, None, then.is_upsert())
             }
             Listening::Release(_) => Ok(Want::Desk(Visit::UnlockKey { call, wrote: false })),
+        }
+    }
+
+    fn want_walking(&self, walk: &Walk<K, V>) -> Result<Want<K, V, E>, AllocError>
+        ensures want { IfOk result (λ want. want ≡ wish_for self.now (walking_plan walk.now)) }
+        ensures err { OnErr result (TakesCopies (access_from self.now (walking_plan walk.now))) }
+    {
+        match walk {
+            Walk::List(part) => Ok(want_list(self.begun, part.number)),
+            Walk::Find { key, .. } => want_get(self.begun, key),
+            Walk::Scan { key, stored, .. } => want_scan(key, stored),
         }
     }
 }

@@ -88,6 +88,7 @@ impl<K: Drop, V: Drop, E: Drop> Flow<K, V, E> {
         match answer {
             TableAnswer::None => self.passes_on(PostStep::Unlock, write, put.posted()),
             TableAnswer::Some { stored, .. } => self.opens(put, stored, write),
+            TableAnswer::Keys(_) => self.passes_on(PostStep::Unlock, write, put.posted()),
         }
     }
 
@@ -154,5 +155,6 @@ fn stamp_of<K, V>(answer: &TableAnswer<K, V>) -> Option<u64>
     match answer {
         TableAnswer::None => None,
         TableAnswer::Some { stored, .. } => Some(stored.stamp),
+        TableAnswer::Keys(_) => None,
     }
 }

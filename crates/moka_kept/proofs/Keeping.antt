@@ -48,6 +48,7 @@ module _ {K V E : Type 0} {same : PartialEq.Ghosts K} {hash : Hash.Ghosts K} (eq
           log = subst (λ n. 0 < n) (sym size) kept.log;
           decided = kept.decided;
           none_begun = kept.none_begun;
+          unlisted = kept.unlisted;
         },
         refl,
       )

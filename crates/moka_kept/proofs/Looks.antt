@@ -53,7 +53,7 @@ module _ {K V E : Type 0} {same : PartialEq.Ghosts K} {hash : Hash.Ghosts K} (eq
       record {
         world = kept.world;
         stands = record {
-          table = record { map = λ q. map q ∙ there.map q; keys = count ∙ there.keys; peak = omega (arith, peak, most); first = there.first };
+          table = record { map = λ q. map q ∙ there.map q; keys = count ∙ there.keys; peak = omega (arith, peak, most); first = there.first; parts = there.parts; part_of = there.part_of };
           desk = kept.stands.desk;
           tests = kept.stands.tests;
           stay = kept.stands.stay;
@@ -62,6 +62,7 @@ module _ {K V E : Type 0} {same : PartialEq.Ghosts K} {hash : Hash.Ghosts K} (eq
         log = kept.log;
         decided = kept.decided;
         none_begun = kept.none_begun;
+        unlisted = kept.unlisted;
       }
 
   -- where the layers stand for a world, a get sees what their table has of the key where it is visible

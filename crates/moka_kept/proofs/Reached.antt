@@ -19,6 +19,7 @@ use Rattle.moka_init.specs.declared.flow.Flow.{Flow}
 use Rattle.moka_desk.specs.Past.{AllowsAlike, with_past}
 use Rattle.moka_laws.specs.Sound.{VisitsKeepSound}
 use Rattle.moka_layers.specs.Layers.{AlwaysDecides, BegunIs, Decides, GroundIs, LayersStay, Serves, account_of, most_on, operation_in}
+use Rattle.moka_layers.proofs.Listings.{none_listed}
 use Rattle.moka_layers.proofs.Wanted.{none_begun}
 use Rattle.moka_table.specs.Plain.{plain_left, plain_table}
 use Rattle.moka_table.specs.declared.plain.PlainCall.{PlainCall}
@@ -73,12 +74,13 @@ module _ {K V E : Type 0} {same : PartialEq.Ghosts K} {hash : Hash.Ghosts K} (eq
         ground = record {
           world = record { table = kept.stands.table; desk = kept.stands.desk; tests = kept.stands.tests; stay = kept.stands.stay };
           begun = subst (λ (b : Option (PlainCall K V)). BegunIs t layers.table call b kept.world.table kept.world.stay) (sym kept.none_begun)
-              (record { fits = tt; within = omega arith; patient = patient });
+              (record { fits = tt; within = omega arith; patient = patient; listing = kept.unlisted call });
           given = given;
         };
         sound = kept.sound;
         log = kept.log;
         decided = kept.decided;
+        unlisted = kept.unlisted;
       }
 
   -- the world, with a state of the desk that allows what is wanted
@@ -90,12 +92,13 @@ module _ {K V E : Type 0} {same : PartialEq.Ghosts K} {hash : Hash.Ghosts K} (eq
     log = kept.log;
     decided = kept.decided;
     none_begun = kept.none_begun;
+    unlisted = kept.unlisted;
   }
 
   -- such a world where nothing is begun is kept
   pub kept_of : (layers : CacheLayers K V E same hash) (w : World K V E) → ReachIs eq layers w → layers.begun ≡ None → IsKept eq layers
   kept_of layers w reach none =
-      record { world = w; stands = reach.ground.world; sound = reach.sound; log = reach.log; decided = reach.decided; none_begun = none }
+      record { world = w; stands = reach.ground.world; sound = reach.sound; log = reach.log; decided = reach.decided; none_begun = none; unlisted = reach.unlisted }
 
   -- an access keeps all of it
   pub gives_reach : VisitsKeepSound K V E eq → (old new : CacheLayers K V E same hash) (access : Access K V E) (given : Got K V E)
@@ -112,6 +115,7 @@ module _ {K V E : Type 0} {same : PartialEq.Ghosts K} {hash : Hash.Ghosts K} (eq
           sound = sound access given may served.0 served.1 decided;
           log = subst (λ n. 0 < n) (sym size) reach.log;
           decided = settled access given served.0 served.1 decided;
+          unlisted = unlisted access given served.0 served.1 decided;
         },
       )
     where
@@ -129,6 +133,14 @@ module _ {K V E : Type 0} {same : PartialEq.Ghosts K} {hash : Hash.Ghosts K} (eq
       settled (On_desk v) (got.Table t) after gets apart = absurd gets
       settled (On_desk v) (got.Desk f) after gets apart = ap (λ (x : World K V E). x.stay.times) gets.1 ∙ reach.decided
 
+      unlisted : (a : Access K V E) (g : Got K V E) → (after : World K V E) → Gets eq old.call w a g after → g ≢ got.Table table.Going → (n : ℕ) → after.table.listings n ≡ None
+      unlisted (On_table o) (got.Table table.Going) after gets apart n = absurd (apart refl)
+      unlisted (On_table o) (got.Table (table.Decided answer)) after gets apart n =
+          ap (λ (x : World K V E). x.table.listings n) gets.2 ∙ none_listed eq old.call w.table gets.0 o answer gets.1 reach.unlisted n
+      unlisted (On_table o) (got.Desk f) after gets apart n = absurd gets
+      unlisted (On_desk v) (got.Table t) after gets apart n = absurd gets
+      unlisted (On_desk v) (got.Desk f) after gets apart n = ap (λ (x : World K V E). x.table.listings n) gets.1 ∙ reach.unlisted n
+
   pub gives_all : {F : Type 0} → VisitsKeepSound K V E eq → (old new : CacheLayers K V E same hash) (wish : Want K V E) (r : Result (Got K V E) F)
       → IfOk r (λ given. OfWanted (account_of (plain_table eq) old) wish (λ access. Serves eq (plain_table eq) in_hand old access given new))
       → IfOk r (λ given. Decides (plain_table eq) given new)
@@ -139,7 +151,7 @@ module _ {K V E : Type 0} {same : PartialEq.Ghosts K} {hash : Hash.Ghosts K} (eq
 
   -- so does want of memory
   pub stays_reach : (old new : CacheLayers K V E same hash) → LayersStay eq (plain_table eq) in_hand old new → (w : World K V E) → ReachIs eq old w → ReachIs eq new w
-  stays_reach old new stays w reach = record { ground = (stays w reach.ground).0; sound = reach.sound; log = reach.log; decided = reach.decided }
+  stays_reach old new stays w reach = record { ground = (stays w reach.ground).0; sound = reach.sound; log = reach.log; decided = reach.decided; unlisted = reach.unlisted }
 
   -- nothing is begun then where nothing was
   pub none_then : {F : Type 0} (r : Result (Got K V E) F) (old new : CacheLayers K V E same hash) → ((w : World K V E) × GroundIs eq (plain_table eq) in_hand old w)

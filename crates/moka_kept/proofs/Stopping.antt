@@ -52,6 +52,7 @@ module _ {K V E : Type 0} (eq : K → K → Bool) (such : Taken V E → Type 0) 
   stops old (turn.Ask ask) new number begun live end =
       (came_by old new (turn.Ask ask) number begun live end, left_by old new (turn.Ask ask) number end)
   stops old (turn.Answer answer) new number begun live end = end
+  stops old (turn.Item key value) new number begun live end = came_by old new (turn.Item key value) number begun live end
 
   -- so does a step that may find no memory
   pub stops_made : {F : Type 0} (old : Flow K V E) (r : Result (Turn K V E) F) (new : Flow K V E) → Rests old → new.call ≡ old.call → HasBegun None new → IfOk r (λ t. Leaves t new)

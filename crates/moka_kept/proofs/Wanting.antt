@@ -64,6 +64,9 @@ module _ {K V E : Type 0} where
   of_item n (plan.Out removal key) = tt
   of_item n plan.Idle = refl
   of_item n plan.Invalidate_all = tt
+  of_item n (plan.List_keys part) = tt
+  of_item n (plan.Find key) = tt
+  of_item n (plan.Scan there found) = tt
   of_item n (plan.Reply answer) = refl
 
   -- a call's next access is one of it

@@ -34,3 +34,4 @@ abbrev pub mark_found : {K V : Type 0} → TableTurn K V → Option (ℕ × ℕ)
 mark_found turn.Going = None
 mark_found (turn.Decided answer.None) = None
 mark_found (turn.Decided (answer.Some key stored)) = Some (mark_of stored)
+mark_found (turn.Decided (answer.Keys keys)) = None

@@ -30,7 +30,7 @@ CacheLayers K V E same hash =
     Layers K V E (PlainTable K V) (PlainCall K V) InHand same hash
 
 -- Some sound world is that of the layers. Its log has room for a write once it is empty, and no
--- operation of its table is begun or stayed undecided.
+-- operation of its table is begun or stayed undecided, and no list of keys.
 pub record IsKept {K V E : Type 0} {same : PartialEq.Ghosts K} {hash : Hash.Ghosts K}
     (eq : K → K → Bool) (layers : CacheLayers K V E same hash) : Type 0 where
   pub world : World K V E
@@ -39,6 +39,7 @@ pub record IsKept {K V E : Type 0} {same : PartialEq.Ghosts K} {hash : Hash.Ghos
   pub log : 0 < world.desk.size
   pub decided : world.stay.times ≡ 0
   pub none_begun : layers.begun ≡ None
+  pub unlisted : (n : ℕ) → world.table.listings n ≡ None
 
 -- It is so, and the answer is there to be taken by the call of this number.
 pub record IsToldTo {K V E : Type 0} {same : PartialEq.Ghosts K} {hash : Hash.Ghosts K}
@@ -63,6 +64,7 @@ pub record ReachIs {K V E : Type 0} {same : PartialEq.Ghosts K} {hash : Hash.Gho
   pub sound : SoundDesk eq w.desk
   pub log : 0 < w.desk.size
   pub decided : w.stay.times ≡ 0
+  pub unlisted : (n : ℕ) → w.table.listings n ≡ None
 
 -- some such world allows what is wanted
 abbrev pub MayReach : {K V E : Type 0} {same : PartialEq.Ghosts K} {hash : Hash.Ghosts K} →

@@ -20,6 +20,7 @@ module _ {K V E : Type 0} where
   stop_of turn.Wait = stop.Waits
   stop_of (turn.Ask ask) = stop.Asks ask
   stop_of (turn.Answer answer) = stop.Answers answer
+  stop_of (turn.Item key value) = stop.Memory
 
   -- the same of a step, which finds no memory where it fails
   abbrev pub stop_after : {F : Type 0} → Result (Turn K V E) F → Stop K V E

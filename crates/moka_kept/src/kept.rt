@@ -198,6 +198,7 @@ impl<K: Eq + Hash + Exact, V: Exact, E: Exact> Kept<K, V, E> {
             Turn::Wait => self.park(call, cx),
             Turn::Ask(ask) => Stop::Asks(ask),
             Turn::Answer(answer) => self.answered(answer, call, woken),
+            Turn::Item(_, _) => Stop::Memory,
         }
     }
 

@@ -96,6 +96,7 @@ fn mark_found<K: Drop, V: Drop>(turn: TableTurn<K, V>) -> Option<(u64, u64)>
             Some((stored.stamp, stored.modified))
         }
         TableTurn::Decided(TableAnswer::None) => None,
+        TableTurn::Decided(TableAnswer::Keys(_)) => None,
         TableTurn::Going => None,
     }
 }

@@ -7,6 +7,9 @@ ghost use Rattle.moka_kept.specs.Rests.{Rests};
 use moka_hist::{Rules, Start};
 use moka_init::Flow;
 
+/// How many parts the table of a cache has.
+const PARTS: usize = 1;
+
 /// A call number that was given out. It has no `Drop`, so nobody can let it go: the flow of the
 /// call is made by it.
 pub struct Number {
@@ -23,11 +26,11 @@ impl Number {
 
     /// Makes the fresh flow of a call with this start and number, in a cache of these rules.
     pub fn begin<K: Drop, V: Drop, E: Drop>(self, start: Start<K, V>, rules: Rules) -> Flow<K, V, E>
-        ensures fresh { call_of result ≡ fresh_call rules start }
+        ensures fresh { call_of result ≡ fresh_call 1 rules start }
         ensures number { result.call ≡ self.call }
         ensures rests { Rests result }
     {
         let Number { call } = self;
-        Flow::new(start, call, rules)
+        Flow::new(start, call, rules, PARTS)
     }
 }

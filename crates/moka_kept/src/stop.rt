@@ -14,7 +14,7 @@ pub enum Stop<K, V, E> {
     /// It has answered.
     Answers(Answer<K, V, E>),
     /// Memory was wanting. So it is left too where the desk does not allow its next visit, or has
-    /// an end for it that is of another kind: no run is known that comes to that. What was done
-    /// stands.
+    /// an end for it that is of another kind: no run is known that comes to that; or where it gave
+    /// a record of a walk, which no call of a cache makes. What was done stands.
     Memory,
 }

@@ -1,5 +1,5 @@
 -- No moment of a record is after the clock.
-use Rattle.std.proofs.Common.{◌≡◌, ℕ, ◌+◌, ◌≤◌, ◌==◌, max, Bool, true, false, cond, ◌&&◌, List, [], ◌∷◌, Option, Some, None, unwrap_or, refl, sym, ap, ◌∙◌, subst, arith}
+use Rattle.std.proofs.Common.{◌≡◌, ℕ, ◌+◌, ◌≤◌, ◌==◌, max, Bool, true, false, cond, ◌&&◌, List, [], ◌∷◌, Option, Some, None, unwrap_or, refl, sym, ap, ◌∙◌, subst, arith, map, ◌++◌}
 use Rattle.std.proofs.lemmas.Bool.Decides.{nat_tests}
 use Rattle.moka_hist.specs.State.{State, World, Call, DeskPart, TablePart, fresh}
 use Rattle.moka_hist.specs.Plan.{Item, Aim, plan_of}
@@ -10,7 +10,7 @@ use Rattle.moka_hist.specs.Loading.{after_read, after_told}
 use Rattle.moka_hist.specs.Computing.{after_told_op}
 use Rattle.moka_hist.specs.Writing.{said}
 use Rattle.moka_hist.specs.Step.{Access, On_desk, On_table, Gets, Step, access_for, access_of, replace_of}
-use Rattle.moka_hist.specs.Tables.{Operates, by_pair, removed, taken_by, written}
+use Rattle.moka_hist.specs.Tables.{Operates, by_pair, removed, taken_by, written, begun}
 use Rattle.moka_hist.specs.Visits.{accessed_at, is_seen, judged}
 use Rattle.moka_hist.specs.Run.{IsReached, fresh_call}
 use Rattle.moka_hist.specs.declared.accesses.Got.{Got}
@@ -39,10 +39,11 @@ use Rattle.moka_laws.proofs.Counting.{none_some, put_cases, some_same}
 use Rattle.moka_laws.proofs.Following.{IsFollowed, follow}
 use Rattle.moka_laws.proofs.Outcomes.{Outcomes, outcomes, passes_on}
 use Rattle.moka_laws.proofs.Owning.{plan_left}
-use Rattle.moka_laws.proofs.Rules.{IsFresh, Computes, Computes_alone, Disabled, Evicts, Locks_and_puts, Locks_and_takes_out, Puts, abort_next, chosen_next, fresh_plan, kept_next, loaded_plans, put_plans, read_key_next, told_op_next}
+use Rattle.moka_laws.proofs.Rules.{IsFresh, Computes, Computes_alone, Disabled, Evicts, Locks_and_puts, Locks_and_takes_out, Puts, abort_next, chosen_next, fresh_plan, kept_next, loaded_plans, put_plans, read_key_next, told_op_next, Walks_over}
 use Rattle.moka_laws.proofs.Stamps.{key_cases}
 use Rattle.moka_laws.proofs.StepCases.{OnStep, step_cases}
 use Rattle.moka_laws.proofs.Steady.{SameBase, accessed_after, accessed_by, step_base, valid_from}
+use Rattle.moka_laws.proofs.Walks.{Ends, Finds, IsWalk, Lists, Scans, walk_is_walk}
 
 -- a moment that is not after the clock is not after a later one
 later : (a k l : ℕ) → a ≤ k → k ≤ l → a ≤ l
@@ -73,6 +74,16 @@ module _ {K V E : Type 0} where
       (later moment k l q.0 h, timely_on k l h rest q.1)
   timely_on k l h (_ ∷ rest) q = (tt, timely_on k l h rest q.1)
 
+  keys_timely : (k : ℕ) (keys : List K) (rest : List (Item K V E)) → AllTimely k rest → AllTimely k (map plan.Find keys ++ rest)
+  keys_timely k [] rest q = q
+  keys_timely k (key ∷ keys) rest q = (tt, keys_timely k keys rest q)
+
+  walk_timely : (k : ℕ) (p : List (Item K V E)) → IsWalk p → AllTimely k p
+  walk_timely k p Ends = (tt, tt)
+  walk_timely k p (Lists part rest walk) = (tt, walk_timely k rest walk)
+  walk_timely k p (Finds key rest walk) = (tt, walk_timely k rest walk)
+  walk_timely k p (Scans there stored rest walk) = (tt, walk_timely k rest walk)
+
   fresh_timely : (k : ℕ) (rules : Rules) (p : List (Item K V E)) → IsFresh rules p → AllTimely k p
   fresh_timely k rules p (Disabled a d once) = (tt, tt)
   fresh_timely k rules p (Computes compute one) = (tt, tt)
@@ -81,6 +92,7 @@ module _ {K V E : Type 0} where
   fresh_timely k rules p (Locks_and_puts key value d on) = (tt, (tt, (tt, (tt, tt))))
   fresh_timely k rules p (Locks_and_takes_out removal key on named) = (tt, (tt, (tt, tt)))
   fresh_timely k rules p (Evicts key stamp cause off) = (tt, tt)
+  fresh_timely k rules p (Walks_over parts able) = walk_timely k p (walk_is_walk 0 parts)
   fresh_timely k rules p _ = (tt, (tt, tt))
 
   module _ (k : ℕ) where
@@ -205,6 +217,16 @@ module _ {K V E : Type 0} where
       λ there old off some. (tt, said_timely _ removal _),
       λ there old on some. (tt, (tt, (tt, said_timely _ removal _))),
     )
+    on_item (plan.List_keys part) rest q = (
+      λ more. p,
+      λ listed keys is gives. goes_timely _ c (map plan.Find keys ++ rest) (keys_timely _ keys rest q.1),
+    )
+    on_item (plan.Find key) rest q = (
+      λ more. p,
+      λ none. goes_timely _ c rest q.1,
+      λ there stored some. (tt, q.1),
+    )
+    on_item (plan.Scan there stored) rest q = (λ seen. q.1, λ unseen. goes_timely _ c rest q.1)
     on_item (plan.Reply a) rest q = tt
     on_item item rest q = passes_on eq Leaves w n c item rest tt (λ d. goes_timely _ c rest q.1) p
 
@@ -299,6 +321,7 @@ module _ {K V : Type 0} (eq : K → K → Bool) where
       subst (StoredTimely k) (sym h.1)
       (either_timely eq k n t (t.stored key) t (written eq n t key stored) i
       (written_timely eq k n t i key stored f))
+  operation_timely E k n t (op.Keys part) answer new h f i = subst (StoredTimely k) (sym h.5) i
   operation_timely E k n t (op.RemoveIf key stamp) answer new h f i =
       subst (StoredTimely k) (sym h.1)
       (either_timely eq k n t (taken_by stamp (t.stored key)) (removed eq n t key) t
@@ -311,7 +334,7 @@ module _ {K V E : Type 0} (eq : K → K → Bool) where
       subst (λ (v : World K V E). StoredTimely k v.table) (sym gets.1) i
   table_timely k n w new (On_table o) (got.Table (table.Decided answer)) gets f i =
       subst (λ (v : World K V E). StoredTimely k v.table) (sym gets.2)
-      (operation_timely eq E k n w.table o answer gets.0 gets.1 f i)
+      (operation_timely eq E k n (begun w.table n o) o answer gets.0 gets.1 f i)
   table_timely k n w new (On_desk made) (got.Desk g) gets f i =
       subst (λ (v : World K V E). StoredTimely k v.table) (sym gets.1) i
   table_timely k n w new (On_table o) (got.Desk g) gets f i = absurd gets
@@ -369,11 +392,11 @@ module _ {K V E : Type 0} (eq : K → K → Bool) where
       stored = i.stored;
       accessed = i.accessed;
       plans = λ n c live. put_cases s.calls (s.world.desk.last + 1)
-          (Some (fresh_call s.world.desk.rules begin)) n (Some c)
+          (Some (fresh_call s.world.table.division.parts s.world.desk.rules begin)) n (Some c)
           (AllTimely s.world.desk.clock c.plan) live
           (λ here is. subst (λ v. AllTimely s.world.desk.clock (plan_left v)) is
           (fresh_timely s.world.desk.clock s.world.desk.rules _
-          (fresh_plan s.world.desk.rules begin)))
+          (fresh_plan s.world.table.division.parts s.world.desk.rules begin)))
           (λ there is. i.plans n c is);
     };
     step = λ s t n turn led i step. timely_step s t n turn i step;
@@ -391,7 +414,7 @@ module _ {K V E : Type 0} (eq : K → K → Bool) where
   }
 
   in_timely : (s : State K V E) → IsReached eq s → IsTimely s
-  in_timely s h = follow eq IsTimely timely_followed (fresh K V E h.rules h.size h.tests) s
+  in_timely s h = follow eq IsTimely timely_followed (fresh K V E h.division h.rules h.size h.tests) s
       h.events h.replies (record {
         stored = λ q p e. absurd (none_some e);
         accessed = λ stamp m e. absurd (none_some e);

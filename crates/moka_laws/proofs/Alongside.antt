@@ -100,7 +100,7 @@ module _ {K V E : Type 0} (eq : K → K → Bool) (begin : Start K V) (n : ℕ)
 
   -- so it holds of the call in each state after its start
   pub holds_since : (s : State K V E) → WasStarted eq begin n s →
-      ((v : State K V E) → P (started v begin) (fresh_call v.world.desk.rules begin)) →
+      ((v : State K V E) → P (started v begin) (fresh_call v.world.table.division.parts v.world.desk.rules begin)) →
       IsReached eq s × HoldsIf P s (s.calls n)
   holds_since s w first =
       let i : IsSo s = follow_start eq begin n s w IsSo so_followed (record {

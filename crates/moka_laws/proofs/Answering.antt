@@ -1,5 +1,5 @@
 -- Live calls have still something to do, and what others wait for is an answer.
-use Rattle.std.proofs.Common.{◌≡◌, ◌≢◌, ℕ, ◌+◌, ◌==◌, Bool, true, false, cond, List, [], ◌∷◌, Option, Some, None, refl, ◌∙◌, subst}
+use Rattle.std.proofs.Common.{◌≡◌, ◌≢◌, ℕ, ◌+◌, ◌==◌, Bool, true, false, cond, List, [], ◌∷◌, Option, Some, None, refl, ◌∙◌, subst, ◌++◌, map}
 use Rattle.moka_hist.specs.Finite.{put_at}
 use Rattle.moka_hist.specs.State.{State, World, Call, DeskPart}
 use Rattle.moka_hist.specs.Plan.{Item, Aim, held_by, plan_of}
@@ -26,11 +26,12 @@ use Rattle.moka_hist.specs.declared.visits.Found.TheVariants as found
 use Rattle.moka_hist.specs.declared.accesses.Turn.{Turn}
 use Rattle.moka_hist.specs.Writing.{cause_handed, nothing_answer, removed_answer}
 use Rattle.moka_hist.specs.declared.writes.Write.TheVariants.{Remove}
-use Rattle.moka_laws.proofs.Rules.{put_plans, loaded_plans, kept_next, chosen_next, IsFresh, Disabled, fresh_plan, read_key_next, told_op_next, said_next}
+use Rattle.moka_laws.proofs.Rules.{put_plans, loaded_plans, kept_next, chosen_next, IsFresh, Disabled, fresh_plan, read_key_next, told_op_next, said_next, Walks_over}
 use Rattle.moka_laws.proofs.Counting.{none_some, put_cases}
 use Rattle.moka_laws.proofs.Kept.{IsInvariant, in_reached}
 use Rattle.moka_laws.proofs.StepCases.{OnStep, step_cases}
 use Rattle.moka_laws.proofs.Outcomes.{Outcomes, outcomes, passes_by}
+use Rattle.moka_laws.proofs.Walks.{Ends, Finds, IsWalk, Lists, Scans, walk_is_walk}
 
 kept_or : {A : Type 0} (b : Bool) (x y : A) (P : A → Type 0) → P x → P y → P (cond b x y)
 kept_or true x y P p q = p
@@ -98,8 +99,19 @@ module _ {K V E : Type 0} where
   goes_well c (plan.Reply a ∷ []) h = tt
   goes_well c _ h = h
 
+  walk_ends : (p : List (Item K V E)) → IsWalk p → EndsWell p
+  walk_ends p Ends = tt
+  walk_ends p (Lists part rest walk) = walk_ends rest walk
+  walk_ends p (Finds key rest walk) = walk_ends rest walk
+  walk_ends p (Scans there stored rest walk) = walk_ends rest walk
+
+  finds_end : (keys : List K) (rest : List (Item K V E)) → EndsWell rest → EndsWell (map plan.Find keys ++ rest)
+  finds_end [] rest h = h
+  finds_end (key ∷ keys) rest h = finds_end keys rest h
+
   fresh_ends : (rules : Rules) (p : List (Item K V E)) → IsFresh rules p → EndsWell p
   fresh_ends rules p (Disabled a d plain) = tt
+  fresh_ends rules p (Walks_over parts able) = walk_ends p (walk_is_walk 0 parts)
   fresh_ends rules p _ = tt
 
   keeps_well : (c : Call K V E) → LeftWell (keeps c).left
@@ -228,6 +240,11 @@ module _ {K V E : Type 0} where
         d,
       ),
     )
+    on_item (plan.List_keys part) rest h p =
+        ((λ more. (p, d)), λ listed keys e gives. (goes_well c (map plan.Find keys ++ rest) (finds_end keys rest h), d))
+    on_item (plan.Find key) rest h p =
+        ((λ more. (p, d)), (λ none. (goes_well c rest h, d)), λ k stored some. (h, d))
+    on_item (plan.Scan there stored) rest h p = ((λ seen. (h, d)), λ unseen. (goes_well c rest h, d))
     on_item (plan.Reply answer) rest h p = (tt, d)
     on_item item rest h p = passes_by eq Leaves w n c item rest tt
         (λ b a. (goes_well c rest h, rw (a.settled, a.told) d)) (p, d)
@@ -252,12 +269,12 @@ module _ {K V E : Type 0} (eq : K → K → Bool) where
 
   pub answering_kept : IsInvariant eq (IsAnswering {K = K} {V = V} {E = E})
   answering_kept = record {
-    fresh = λ rules size tests has_log. record { calls = λ n c live. absurd (none_some live); desk = record { settled = λ x. none_some; told = λ x. tt } };
+    fresh = λ division divides rules size tests has_log. record { calls = λ n c live. absurd (none_some live); desk = record { settled = λ x. none_some; told = λ x. tt } };
     at = λ s moment i. record { calls = i.calls; desk = i.desk };
     start = λ s start i. record {
       calls = λ n c live.
-          put_cases s.calls (s.world.desk.last + 1) (Some (fresh_call s.world.desk.rules start)) n (Some c) (EndsWell c.plan) live
-          (λ here is. subst LeftWell is (fresh_ends s.world.desk.rules _ (fresh_plan s.world.desk.rules start)))
+          put_cases s.calls (s.world.desk.last + 1) (Some (fresh_call s.world.table.division.parts s.world.desk.rules start)) n (Some c) (EndsWell c.plan) live
+          (λ here is. subst LeftWell is (fresh_ends s.world.desk.rules _ (fresh_plan s.world.table.division.parts s.world.desk.rules start)))
           (λ there is. i.calls n c is);
       desk = i.desk;
     };

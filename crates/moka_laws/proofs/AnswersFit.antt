@@ -1,9 +1,9 @@
 -- A call answers as what it was started for may.
-use Rattle.std.proofs.Common.{◌≡◌, ℕ, ◌+◌, ◌==◌, Bool, true, false, List, [], ◌∷◌, Option, Some, None, refl, sym, ◌∙◌, subst}
+use Rattle.std.proofs.Common.{◌≡◌, ℕ, ◌+◌, ◌==◌, Bool, true, false, List, [], ◌∷◌, Option, Some, None, refl, sym, ◌∙◌, subst, map, ◌++◌}
 use Rattle.std.proofs.lemmas.Bool.{false≢true}
 use Rattle.moka_hist.specs.Conditions.{may_end}
 use Rattle.moka_hist.specs.State.{State, World, Call}
-use Rattle.moka_hist.specs.Plan.{Item, Aim, Change, Removal, end_load, is_disabled, get_plan, insert_plan, load_plan, or_insert_plan, seek, take_out, under_lock, plan_of}
+use Rattle.moka_hist.specs.Plan.{Item, Aim, Change, Removal, end_load, is_disabled, get_plan, insert_plan, load_plan, or_insert_plan, seek, take_out, under_lock, plan_of, iter_plan}
 use Rattle.moka_hist.specs.Plan as plan
 use Rattle.moka_hist.specs.Next.{Next, goes, waits}
 use Rattle.moka_hist.specs.Looking.{shown, hits, misses, keeps, finds_pair}
@@ -47,6 +47,7 @@ use Rattle.moka_hist.specs.declared.visits.Takes.{Takes}
 use Rattle.moka_hist.specs.declared.visits.Takes.TheVariants as takes
 use Rattle.moka_hist.specs.Computing.{after_told_op, after_read_key}
 use Rattle.moka_hist.specs.Entries.{unchanged, put_answer}
+use Rattle.moka_laws.proofs.Walks.{Ends, Finds, IsWalk, Lists, Scans, walk_is_walk}
 
 same_answer : {K V E : Type 0} (a b : Answer K V E) → ◌≡◌ {A = Turn K V E} (turn.Answer a)
     (turn.Answer b) →
@@ -164,6 +165,11 @@ module _ {K V E : Type 0} (begin : Start K V) where
   abbrev pub AllSuit : List (Item K V E) → Type 0
   AllSuit [] = Unit {0}
   AllSuit (item ∷ rest) = Suits item × AllSuit rest
+
+  -- the looks for listed keys answer nothing
+  keys_suit : (keys : List K) (rest : List (Item K V E)) → AllSuit rest → AllSuit (map plan.Find keys ++ rest)
+  keys_suit [] rest q = q
+  keys_suit (key ∷ keys) rest q = (tt, keys_suit keys rest q)
 
   -- what a step has to show
   pub record Leaves (next : Next K V E) : Type 0 where
@@ -395,6 +401,17 @@ module _ {K V E : Type 0} (begin : Start K V) where
       λ k old is_on some. on _ (λ b g. cc)
           (tt, (tt, (tt, said_suits removal _ (q.0.0 old.value)))),
     )
+    on_item (plan.List_keys part) rest e q = (
+      (λ more. on _ (λ b g. cc) p),
+      λ listed keys is gives. goes_suits c (map plan.Find keys ++ rest) (keys_suit keys rest q.1),
+    )
+    on_item (plan.Find key) rest e q = (
+      (λ more. on _ (λ b g. cc) p),
+      (λ none. goes_suits c rest q.1),
+      λ k stored some. on _ (λ b g. cc) (tt, q.1),
+    )
+    on_item (plan.Scan there stored) rest e q =
+        ((λ seen. on _ (λ b g. cc) q.1), λ unseen. goes_suits c rest q.1)
     on_item (plan.Reply a) rest e q = answers_so a _ refl refl q.0
     on_item item rest e q =
         passes_on eq After w n c item rest tt (λ d. goes_suits c rest q.1) parks
@@ -421,43 +438,54 @@ module _ {K V : Type 0} (E : Type 0) where
       by true = (tt, (tt, (s, tt)))
       by false = (tt, (s, tt))
 
-  pub fresh_suits : (rules : Rules) (begin : Start K V) → AllSuit {E = E} begin (plan_of rules begin)
-  fresh_suits rules (start.Get key) = by (is_disabled rules)
+  walk_suits : (p : List (Item K V E)) → IsWalk p → AllSuit {E = E} start.Iter p
+  walk_suits p Ends = (refl, tt)
+  walk_suits p (Lists part rest walk) = (tt, walk_suits rest walk)
+  walk_suits p (Finds key rest walk) = (tt, walk_suits rest walk)
+  walk_suits p (Scans there stored rest walk) = (tt, walk_suits rest walk)
+
+  pub fresh_suits : (parts : ℕ) (rules : Rules) (begin : Start K V) → AllSuit {E = E} begin (plan_of parts rules begin)
+  fresh_suits parts rules (start.Get key) = by (is_disabled rules)
     where
       by : (b : Bool) → AllSuit {V = V} {E = E} (start.Get key) (get_plan b key)
       by true = (refl, tt)
       by false = (tt, (λ value. refl, tt))
-  fresh_suits rules (start.Insert key value) = by (is_disabled rules)
+  fresh_suits parts rules (start.Insert key value) = by (is_disabled rules)
     where
       by : (b : Bool) → AllSuit {E = E} (start.Insert key value) (insert_plan b rules key value)
       by true = (refl, tt)
       by false = put_plans (AllSuit {E = E} (start.Insert key value)) rules key value
           (plan.Reply answer.Done ∷ []) (tt, (tt, (refl, tt))) (tt, (tt, (tt, (refl, tt))))
-  fresh_suits rules (start.GetWith key replace) =
+  fresh_suits parts rules (start.GetWith key replace) =
       load_suits (start.GetWith key replace) (is_disabled rules) (seek kind.GetWith key replace) refl
-  fresh_suits rules (start.Optional key) =
+  fresh_suits parts rules (start.Optional key) =
       load_suits (start.Optional key) (is_disabled rules) (seek kind.Optional key None) refl
-  fresh_suits rules (start.Try key) =
+  fresh_suits parts rules (start.Try key) =
       load_suits (start.Try key) (is_disabled rules) (seek kind.Try key None) refl
-  fresh_suits rules (start.OrInsert key value) = by (is_disabled rules)
+  fresh_suits parts rules (start.OrInsert key value) = by (is_disabled rules)
     where
       by : (b : Bool) → AllSuit {E = E} (start.OrInsert key value) (or_insert_plan b key value)
       by true = (tt, (refl, tt))
       by false = (tt, (λ v fresh. refl, tt))
-  fresh_suits rules (start.TryCompute key) = (((λ done. refl), λ error e. refl), tt)
-  fresh_suits rules (start.ComputeAlone key) = (((λ done. refl), λ error e. refl), tt)
-  fresh_suits rules (start.Invalidate key) =
+  fresh_suits parts rules (start.TryCompute key) = (((λ done. refl), λ error e. refl), tt)
+  fresh_suits parts rules (start.ComputeAlone key) = (((λ done. refl), λ error e. refl), tt)
+  fresh_suits parts rules (start.Invalidate key) =
       out_suits (start.Invalidate key) rules plan.To_invalidate key (λ value. refl, refl)
-  fresh_suits rules (start.Remove key) =
+  fresh_suits parts rules (start.Remove key) =
       out_suits (start.Remove key) rules plan.To_remove key (λ value. refl, refl)
-  fresh_suits rules start.InvalidateAll = (tt, (refl, tt))
-  fresh_suits rules (start.Evict key stamp cause) = by rules.listener
+  fresh_suits parts rules start.InvalidateAll = (tt, (refl, tt))
+  fresh_suits parts rules start.Iter = by (is_disabled rules)
+    where
+      by : (b : Bool) → AllSuit {K = K} {V = V} {E = E} start.Iter (iter_plan b parts)
+      by true = (refl, tt)
+      by false = walk_suits _ (walk_is_walk 0 parts)
+  fresh_suits parts rules (start.Evict key stamp cause) = by rules.listener
     where
       by : (b : Bool) → AllSuit {V = V} {E = E} (start.Evict key stamp cause)
           (under_lock b key (plan.Get (plan.To_evict key stamp cause) key ∷ []))
       by true = (tt, ((λ value. refl, refl), tt))
       by false = ((λ value. refl, refl), tt)
-  fresh_suits rules _ =
+  fresh_suits parts rules _ =
       (((λ done. refl), λ error e. absurd (false≢true e)), tt)
 
 -- ---- of a state
@@ -510,5 +538,5 @@ module _ {K V E : Type 0} (eq : K → K → Bool) where
   answers_fit s t begin n a w step =
       let i = holds_since eq begin n (SuitsCall eq begin n) (λ s v c led rules h. h)
       (λ s t r h i step. (own_step eq begin n s t r h i step).0) s w
-      (λ v. fresh_suits E v.world.desk.rules begin) in
+      (λ v. fresh_suits E v.world.table.division.parts v.world.desk.rules begin) in
       (own_step eq begin n s t (turn.Answer a) i.0 i.1 step).1 a refl

@@ -11,9 +11,10 @@ use Rattle.moka_laws.specs.Listening.{AsksAreLive, HasHearer, IsOwedWith, Runnin
 use Rattle.moka_laws.proofs.Asking.{IsAsking, in_asking, takes_told}
 use Rattle.moka_laws.proofs.Noticing.{guards, guards_owed, in_noticing}
 use Rattle.moka_laws.proofs.Owning.{plan_left}
-use Rattle.moka_laws.proofs.Plans.{IsTail, Answering, Settling, IsDrained, Putting, IsPosted, Draining, Ended, Locking, IsPlan, Posted, Drained, Posting, Hearing, Noticing, Listening, Unlocking, Turning, Applying, Ending, Telling, Writing, Freeing, Idling, Telling_op}
+use Rattle.moka_laws.proofs.Plans.{IsTail, Answering, Settling, IsDrained, Putting, IsPosted, Draining, Ended, Locking, IsPlan, Posted, Drained, Posting, Hearing, Noticing, Listening, Unlocking, Turning, Applying, Ending, Telling, Writing, Freeing, Idling, Telling_op, Walking}
 use Rattle.moka_laws.proofs.Sums.{sum_has}
 use Rattle.moka_laws.proofs.Weights.{weigh, weigh_call}
+use Rattle.moka_laws.proofs.Walks.{weigh_walk}
 
 -- ---- asks of calls
 
@@ -56,6 +57,7 @@ module _ {K V E : Type 0} where
   waits p (Writing key value moment rest t) h = absurd (omega (arith, h, tail_takes rest t))
   waits p (Freeing rest t) h = absurd (omega (arith, h, tail_takes rest t))
   waits p (Idling rest t) h = absurd (omega (arith, h, tail_takes rest t))
+  waits p (Walking rest walk) h = none p (weigh_walk takes_told (record { list = λ part. refl; find = λ key. refl; scan = λ there stored. refl; end = refl }) p walk) h
   waits p _ h = absurd (omega (arith, h))
 
 module _ {K V E : Type 0} (s : State K V E) (i : IsAsking s) (n : ℕ)

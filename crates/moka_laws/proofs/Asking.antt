@@ -29,10 +29,10 @@ use Rattle.moka_hist.specs.declared.accesses.Turn.{Turn}
 use Rattle.moka_hist.specs.Plan.{Removal}
 use Rattle.moka_hist.specs.declared.replies.Answer.{Answer}
 use Rattle.moka_hist.specs.Writing.{nothing_answer, removed_answer, said}
-use Rattle.moka_laws.proofs.Rules.{abort_next, put_plans, loaded_plans, kept_next, chosen_next, IsFresh, Disabled, fresh_plan, read_key_next, told_op_next_by, IsLoad, IsComputes}
+use Rattle.moka_laws.proofs.Rules.{abort_next, put_plans, loaded_plans, kept_next, chosen_next, IsFresh, Disabled, fresh_plan, read_key_next, told_op_next_by, IsLoad, IsComputes, Walks_over}
 use Rattle.moka_laws.proofs.Counting.{put_here, put_there}
 use Rattle.moka_laws.proofs.Weights.{weigh, weigh_call, weigh_goes}
-use Rattle.moka_laws.proofs.Plans.{IsLook, IsTail, Answering, Settling, IsDrained, Looking, Owning, Giving, Putting, Removing, Locking_out, IsPosted, Draining, Ended, Locking, IsPlan, Posted, Drained, Posting, Hearing, Noticing, Listening, Unlocking, Turning, Applying, Ending, Judging, Reading, Asking, Telling, Writing, Choosing, Finding, Chosen, Taking, Freeing, Hiding, Idling, IsKnown, known_kept, Asking_op, Owning_key, Owning_alone, Reading_key, Telling_op}
+use Rattle.moka_laws.proofs.Plans.{IsLook, IsTail, Answering, Settling, IsDrained, Looking, Owning, Giving, Putting, Removing, Locking_out, IsPosted, Draining, Ended, Locking, IsPlan, Posted, Drained, Posting, Hearing, Noticing, Listening, Unlocking, Turning, Applying, Ending, Judging, Reading, Asking, Telling, Writing, Choosing, Finding, Chosen, Taking, Freeing, Hiding, Idling, IsKnown, known_kept, Asking_op, Owning_key, Owning_alone, Reading_key, Telling_op, Walking}
 use Rattle.moka_laws.proofs.Balance.{IsBalanced}
 use Rattle.moka_laws.proofs.Balanced.{balanced_kept, next_free}
 use Rattle.moka_laws.proofs.Kept.{IsInvariant, in_reached}
@@ -41,6 +41,7 @@ use Rattle.moka_laws.proofs.Outcomes.{outcomes}
 use Rattle.moka_laws.proofs.TakesFit.{AllTake, ToldFits, IsTaking, taking_kept, load_takes_no_op, compute_loses_none}
 use Rattle.moka_hist.specs.declared.loads.Compute.{Compute}
 use Rattle.moka_hist.specs.Computing.{after_told_op, after_read_key}
+use Rattle.moka_laws.proofs.Walks.{IsLight, on_walk, walks_weigh, weigh_walk, walk_is_walk}
 
 -- how many there are of an open ask and an answer
 abbrev pub opened : {V E : Type 0} → Option Takes → Option (Told V E) → ℕ
@@ -116,6 +117,7 @@ module _ {K V E : Type 0} where
 
   fresh_none : (rules : Rules) (p : List (Item K V E)) → IsFresh rules p → weigh takes_told p ≡ 0
   fresh_none rules p (Disabled a d plain) = refl
+  fresh_none rules p (Walks_over parts able) = weigh_walk takes_told (record { list = λ part. refl; find = λ key. refl; scan = λ there stored. refl; end = refl }) p (walk_is_walk 0 parts)
   fresh_none rules p _ = refl
 
   said_takes : (removal : Removal K) (a : Answer K V E) → weigh takes_told (said removal a) ≡ 0
@@ -150,6 +152,7 @@ module _ {K V E : Type 0} where
   plan_few p (Writing key value moment rest t) = omega (arith, tail_few rest t)
   plan_few p (Freeing rest t) = omega (arith, tail_few rest t)
   plan_few p (Idling rest t) = omega (arith, tail_few rest t)
+  plan_few p (Walking rest walk) = omega (arith, weigh_walk takes_told (record { list = λ part. refl; find = λ key. refl; scan = λ there stored. refl; end = refl }) p walk)
   plan_few p _ = omega arith
 
   -- ---- what a step has to show
@@ -337,6 +340,11 @@ module _ {K V E : Type 0} where
         (goes_on rest (omega (arith, ap (weigh takes_told) e)))
     on_plan p e Hiding = outcomes eq Leaves w n c plan.Invalidate_all (plan.Reply said_as.Done ∷ [])
         (still (omega (arith, ap (weigh takes_told) e)))
+    on_plan p e (Walking rest walk) =
+        let light : IsLight {K = K} {V = V} {E = E} takes_told = (record { list = λ part. refl; find = λ key. refl; scan = λ there stored. refl; end = refl }) in
+        let z : weigh takes_told c.plan ≡ 0 = ap (weigh takes_told) e ∙ weigh_walk takes_told light p walk in
+        on_walk eq Leaves w n c rest walk
+        (λ listings stay next on. still (walks_weigh takes_told light (λ a. refl) c z next on ∙ sym z)) (still (sym z))
     on_plan p e (Idling rest t) = outcomes eq Leaves w n c plan.Idle rest
         (goes_on rest (omega (arith, ap (weigh takes_told) e)))
 
@@ -391,8 +399,8 @@ module _ {K V E : Type 0} (eq : K → K → Bool) where
         balanced = (balanced_kept eq).start s start i.balanced;
         taking = (taking_kept eq).start s start i.taking;
         known = (known_kept eq).start s start i.known;
-        asked = asks_on s new s.world (Some (fresh_call s.world.desk.rules start)) i (record {
-          own = i.asked new ∙ ap (weigh_call takes_told) (next_free s i.balanced) ∙ sym (fresh_none s.world.desk.rules _ (fresh_plan s.world.desk.rules start));
+        asked = asks_on s new s.world (Some (fresh_call s.world.table.division.parts s.world.desk.rules start)) i (record {
+          own = i.asked new ∙ ap (weigh_call takes_told) (next_free s i.balanced) ∙ sym (fresh_none s.world.desk.rules _ (fresh_plan s.world.table.division.parts s.world.desk.rules start));
           others = λ m d. (refl, refl);
         });
       }
@@ -415,10 +423,10 @@ module _ {K V E : Type 0} (eq : K → K → Bool) where
 
   pub asking_kept : IsInvariant eq (IsAsking {K = K} {V = V} {E = E})
   asking_kept = record {
-    fresh = λ rules size tests has_log. record {
-      balanced = (balanced_kept eq).fresh rules size tests has_log;
-      taking = (taking_kept eq).fresh rules size tests has_log;
-      known = (known_kept eq).fresh rules size tests has_log;
+    fresh = λ division divides rules size tests has_log. record {
+      balanced = (balanced_kept eq).fresh division divides rules size tests has_log;
+      taking = (taking_kept eq).fresh division divides rules size tests has_log;
+      known = (known_kept eq).fresh division divides rules size tests has_log;
       asked = λ n. refl;
     };
     at = λ s moment i. record {

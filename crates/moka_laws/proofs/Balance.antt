@@ -1,12 +1,12 @@
 -- Committed writes are counted: each stands as often as it was committed, which is at most once.
-use Rattle.std.proofs.Common.{◌≡◌, ℕ, ◌+◌, ◌<◌, ◌≤◌, ◌==◌, Bool, true, false, cond, List, [], ◌∷◌, ◌++◌, map, Some, None, refl, ap, ◌∙◌, arith}
+use Rattle.std.proofs.Common.{◌≡◌, ℕ, ◌+◌, ◌<◌, ◌≤◌, ◌==◌, Bool, true, false, cond, List, [], ◌∷◌, ◌++◌, map, Option, Some, None, refl, ap, ◌∙◌, arith}
 use Rattle.std.proofs.lemmas.List.{map-append}
 use Rattle.moka_hist.specs.Finite.{times}
-use Rattle.moka_hist.specs.State.{Stay, State, World, Call, DeskPart}
+use Rattle.moka_hist.specs.State.{Stay, State, World, Call, DeskPart, Listed}
 use Rattle.moka_hist.specs.Plan.{Item, Aim, held_by, plan_of}
 use Rattle.moka_hist.specs.Plan as plan
 use Rattle.moka_hist.specs.Visits.{number_of}
-use Rattle.moka_hist.specs.Next.{Next, goes}
+use Rattle.moka_hist.specs.Next.{Next, goes, stays, gives}
 use Rattle.moka_hist.specs.declared.records.Mode.{Mode}
 use Rattle.moka_hist.specs.declared.records.Mode.TheVariants as mode
 use Rattle.moka_hist.specs.Tables.{removed, written}
@@ -23,9 +23,10 @@ use Rattle.moka_hist.specs.Computing.{end_compute}
 use Rattle.moka_hist.specs.Writing.{cause_handed, nothing_answer, removed_answer}
 use Rattle.moka_laws.proofs.Rules.{said_next}
 use Rattle.moka_laws.proofs.Outcomes.{taken_out}
-use Rattle.moka_laws.proofs.Posts.{once, among, among_owed, post_of, may_write, late, late_call, late_goes, late_none, posts_none, IsClear, keeps_clear, misses_clear, finds_clear, hits_clear, read_clear, told_clear, read_key_clear, told_op_clear}
+use Rattle.moka_laws.proofs.Posts.{any_post, once, among, among_owed, post_of, may_write, late, late_call, late_goes, late_none, posts_none, IsClear, keeps_clear, misses_clear, finds_clear, hits_clear, read_clear, told_clear, read_key_clear, told_op_clear}
 use Rattle.moka_laws.proofs.StepCases.{OnStep}
 use Rattle.moka_laws.proofs.Outcomes.{Outcomes, outcomes, passes_by}
+use Rattle.moka_laws.proofs.Walks.{walked, weigh_finds}
 
 -- a number stands once more in a list with one more
 pub times_first : (x y : ℕ) (ys : List ℕ) → times x (y ∷ ys) ≡ once x y + times x ys
@@ -94,6 +95,13 @@ module _ {K V E : Type 0} where
       others = λ m h. refl;
       balance = λ x. omega (arith, ap (weigh (post_of x)) e);
     }
+
+    -- a step of a walk posts nothing, and makes no write
+    walks_put : (listings : ℕ → Option (Listed K)) (stay : Stay) (next : Next K V E) → late_call next.left ≡ 0 →
+        times n w.table.committed + weigh_call may_write next.left ≤ 1 →
+        ((x : ℕ) → weigh_call (post_of x) next.left ≡ weigh (post_of x) plan) → Balances w n plan (walked w listings stay) next
+    walks_put listings stay next tidy spent posts =
+        record { last = refl; tidy = tidy; spent = spent; others = λ m h. refl; balance = λ x. omega (arith, posts x) }
 
     -- a call with nothing to post is clear
     was_clear : (c : Call K V E) → c.plan ≡ plan → late plan ≡ 0 → times n w.table.committed + weigh may_write plan ≤ 1 →
@@ -384,6 +392,25 @@ module _ {K V E : Type 0} where
     on_item (plan.Lock key) rest e t sp = (
       λ free. goes_on w n c (plan.Lock key) rest refl refl (λ x. refl) (late_none rest t) (λ x. refl) (omega arith),
       λ held. stays_put w n (plan.Lock key ∷ rest) w.stay c e t sp mode.Parked turn.Wait,
+    )
+    on_item (plan.List_keys part) rest e t sp = (
+      (λ more. walks_put w n (plan.List_keys part ∷ rest) _ _ (stays c) (ap late e ∙ t) (omega (arith, ap (weigh may_write) e))
+          (λ x. ap (weigh (post_of x)) e)),
+      λ listed keys is gives. walks_put w n (plan.List_keys part ∷ rest) _ _ (goes c (map plan.Find keys ++ rest))
+          (late_goes c (map plan.Find keys ++ rest) ∙ late_none (map plan.Find keys ++ rest) (weigh_finds any_post (λ key. refl) keys rest ∙ t))
+          (omega (arith, weigh_goes may_write c (map plan.Find keys ++ rest) (λ a. refl), weigh_finds {E = E} may_write (λ key. refl) keys rest))
+          (λ x. omega (arith, weigh_goes (post_of x) c (map plan.Find keys ++ rest) (λ a. refl), weigh_finds {E = E} (post_of x) (λ key. refl) keys rest)),
+    )
+    on_item (plan.Find key) rest e t sp = (
+      (λ more. stays_put w n (plan.Find key ∷ rest) _ c e t sp mode.Mid turn.Going),
+      (λ none. goes_on w n c (plan.Find key) rest refl refl (λ x. refl) (late_none rest t) (λ x. refl) (omega arith)),
+      λ k stored some. walks_put w n (plan.Find key ∷ rest) w.table.listings (decided_by n) (goes c (plan.Scan k stored ∷ rest)) t
+          (omega arith) (λ x. omega arith),
+    )
+    on_item (plan.Scan there stored) rest e t sp = (
+      (λ seen. walks_put w n (plan.Scan there stored ∷ rest) w.table.listings w.stay (gives c there stored.value rest) (late_none rest t)
+          (omega arith) (λ x. omega arith)),
+      λ unseen. goes_on w n c (plan.Scan there stored) rest refl refl (λ x. refl) (late_none rest t) (λ x. refl) (omega arith),
     )
     on_item plan.Idle rest e t sp = goes_on w n c plan.Idle rest refl refl (λ x. refl)
         (late_none rest t) (λ x. refl) (omega arith)

@@ -74,26 +74,26 @@ module _ {K V E : Type 0} (eq : K → K → Bool) where
   balanced_start : (s : State K V E) (start : Start K V) → IsBalanced s → IsBalanced (started s start)
   balanced_start s start i =
       let new : ℕ = s.world.desk.last + 1 in
-      let clear = fresh_clear s.world.desk.rules start in
+      let clear = fresh_clear s.world.table.division.parts s.world.desk.rules start in
       record {
-        numbered = λ m d lives. put_cases s.calls new (Some (fresh_call s.world.desk.rules start)) m (Some d) (m ≤ new) lives (λ here is. omega arith)
+        numbered = λ m d lives. put_cases s.calls new (Some (fresh_call s.world.table.division.parts s.world.desk.rules start)) m (Some d) (m ≤ new) lives (λ here is. omega arith)
             (λ there is. omega (arith, i.numbered m d is));
-        tidy = λ m d lives. put_cases s.calls new (Some (fresh_call s.world.desk.rules start)) m (Some d) (late d.plan ≡ 0) lives
+        tidy = λ m d lives. put_cases s.calls new (Some (fresh_call s.world.table.division.parts s.world.desk.rules start)) m (Some d) (late d.plan ≡ 0) lives
             (λ here is. sym (ap late_call is) ∙ clear.late) (λ there is. i.tidy m d is);
         unspent = λ m d lives.
-            put_cases s.calls new (Some (fresh_call s.world.desk.rules start)) m (Some d) (times m s.world.table.committed + weigh may_write d.plan ≤ 1) lives
+            put_cases s.calls new (Some (fresh_call s.world.table.division.parts s.world.desk.rules start)) m (Some d) (times m s.world.table.committed + weigh may_write d.plan ≤ 1) lives
             (λ here is. omega (arith, i.unborn m (omega arith), ap (weigh_call may_write) is, clear.may))
             (λ there is. i.unspent m d is);
         unborn = λ m beyond. i.unborn m (omega arith);
         once = i.once;
         balance = λ x.
             let f : ℕ → ℕ = λ m. weigh_call (post_of x) (s.calls m) in
-            let g : ℕ → ℕ = λ m. weigh_call (post_of x) (put_at s.calls new (Some (fresh_call s.world.desk.rules start)) m) in
+            let g : ℕ → ℕ = λ m. weigh_call (post_of x) (put_at s.calls new (Some (fresh_call s.world.table.division.parts s.world.desk.rules start)) m) in
             let old = sum_same s.world.desk.last f g
             (λ m small. ap (weigh_call (post_of x))
-            (put_there s.calls new (Some (fresh_call s.world.desk.rules start)) m (differ new m (λ e. omega arith)))) in
+            (put_there s.calls new (Some (fresh_call s.world.table.division.parts s.world.desk.rules start)) m (differ new m (λ e. omega arith)))) in
             let last = sum_next s.world.desk.last g in
-            let here = ap (weigh_call (post_of x)) (put_here s.calls new (Some (fresh_call s.world.desk.rules start))) in
+            let here = ap (weigh_call (post_of x)) (put_here s.calls new (Some (fresh_call s.world.table.division.parts s.world.desk.rules start))) in
             omega (arith, i.balance x, clear.posts x);
       }
 
@@ -126,7 +126,7 @@ module _ {K V E : Type 0} (eq : K → K → Bool) where
 
   pub balanced_kept : IsInvariant eq (IsBalanced {K = K} {V = V} {E = E})
   balanced_kept = record {
-    fresh = λ rules size tests has_log. record {
+    fresh = λ division divides rules size tests has_log. record {
       numbered = λ n c live. absurd (none_some live);
       tidy = λ n c live. absurd (none_some live);
       unspent = λ n c live. absurd (none_some live);

@@ -52,14 +52,14 @@ module _ {K V E : Type 0} (eq : K → K → Bool) where
 
 module _ {K V : Type 0} (E : Type 0) (eq : K → K → Bool) where
   -- a call that is started to compute is at its first stage
-  starts_so : (rules : Rules) (begin : Start K V) (key : K) (n : ℕ) (s : State K V E) →
-      computed_key begin ≡ Some key → Stage eq begin key n s (plan_of rules begin)
-  starts_so rules (start.Compute k) key n s e = (some_same e, λ f. cc)
-  starts_so rules (start.TryCompute k) key n s e = (some_same e, λ f. cc)
-  starts_so rules (start.Upsert k) key n s e = (some_same e, λ f. cc)
-  starts_so rules (start.ComputeAlone k) key n s e =
+  starts_so : (parts : ℕ) (rules : Rules) (begin : Start K V) (key : K) (n : ℕ) (s : State K V E) →
+      computed_key begin ≡ Some key → Stage eq begin key n s (plan_of parts rules begin)
+  starts_so parts rules (start.Compute k) key n s e = (some_same e, λ f. cc)
+  starts_so parts rules (start.TryCompute k) key n s e = (some_same e, λ f. cc)
+  starts_so parts rules (start.Upsert k) key n s e = (some_same e, λ f. cc)
+  starts_so parts rules (start.ComputeAlone k) key n s e =
       (some_same e, ap (λ v. start.ComputeAlone v) (some_same e))
-  starts_so rules _ key n s e = absurd (none_some e)
+  starts_so parts rules _ key n s e = absurd (none_some e)
 
 module _ {K V E : Type 0} (eq : K → K → Bool) (begin : Start K V) (key : K) (n : ℕ) where
   -- the state is reached, and the call was started and is so far
@@ -150,7 +150,7 @@ module _ {K V E : Type 0} (eq : K → K → Bool) (begin : Start K V) (key : K) 
     stage = subst (StageIf eq begin key n (started w.before begin))
         (sym (ap (λ v. (started w.before begin).calls v) is.0 ∙ put_here w.before.calls
         (w.before.world.desk.last + 1) _))
-        (starts_so E eq w.before.world.desk.rules begin key n (started w.before begin) of, refl);
+        (starts_so E eq w.before.world.table.division.parts w.before.world.desk.rules begin key n (started w.before begin) of, refl);
   })
     where
       is : (n ≡ w.before.world.desk.last + 1) × (w.begun ≡ started w.before begin)

@@ -33,7 +33,7 @@ use Rattle.moka_laws.specs.Computes.{AskedWith, AsksWith, ComputeSays, Disabled,
 use Rattle.moka_laws.specs.Looks.{HasDecided, HasShown, Judged, Judges, LooksUp, Missed}
 use Rattle.moka_laws.specs.Starting.{HasMade, Leads}
 use Rattle.moka_laws.proofs.Counting.{put_here}
-use Rattle.moka_laws.proofs.Following.{leads_more, no_leads, step_leads}
+use Rattle.moka_laws.proofs.Following.{made_on, no_leads, step_leads}
 use Rattle.moka_laws.proofs.Outcomes.{OwnsKey, alone_of, computes_of, outcomes, was_read}
 use Rattle.moka_laws.proofs.Owning.{plan_left}
 use Rattle.moka_laws.proofs.Rules.{put_plans, read_key_next}
@@ -61,22 +61,6 @@ module _ {K V E : Type 0} where
   at_table (plan.Get aim key ∷ rest) = true
   at_table (plan.Out removal key ∷ rest) = true
   at_table _ = false
-
-  -- a step that made the call what it is was made on the way to what follows
-  pub made_on : (eq : K → K → Bool) (s v : State K V E) (n : ℕ)
-      (What : State K V E → Call K V E → Turn K V E → State K V E → Type 0) → Leads eq s v →
-      HasMade eq s n What → HasMade eq v n What
-  made_on eq s v n What led m = record {
-    before = m.before;
-    reached = m.reached;
-    call = m.call;
-    live = m.live;
-    turn = m.turn;
-    after = m.after;
-    step = m.step;
-    what = m.what;
-    led = leads_more eq m.after s v m.led led;
-  }
 
   -- what a look has shown it has
   pub shown_on : (eq : K → K → Bool) (s v : State K V E) (n : ℕ) (aim : Aim K V)

@@ -1,5 +1,5 @@
 -- A disabled cache stores nothing.
-use Rattle.std.proofs.Common.{◌≡◌, ℕ, ◌+◌, Bool, true, List, [], ◌∷◌, map, Option, Some, None, is_some, inr, refl, sym, ap, ◌∙◌, subst, arith}
+use Rattle.std.proofs.Common.{◌≡◌, ℕ, ◌+◌, Bool, true, List, [], ◌∷◌, map, Option, Some, None, is_some, inr, refl, sym, ap, ◌∙◌, subst, arith, ◌++◌}
 use Rattle.std.proofs.lemmas.Bool.{false≢true}
 use Rattle.std.specs.Prelude.{Contains}
 use Rattle.moka_hist.specs.Finite.{times}
@@ -35,13 +35,14 @@ use Rattle.moka_laws.specs.Removals.{DisabledStoresNothing, StoresNothing}
 use Rattle.moka_laws.proofs.Counting.{none_some, put_cases, times_same}
 use Rattle.moka_laws.proofs.Weights.{weigh, weigh_call, weigh_goes, weigh_said}
 use Rattle.moka_laws.proofs.Locking.{IsLocking, locking_kept}
-use Rattle.moka_laws.proofs.Rules.{abort_next, chosen_next, kept_next, loaded_plans_by, IsFresh, Puts, Locks_and_puts, Finds_or_puts, fresh_plan, read_key_next, told_op_next}
+use Rattle.moka_laws.proofs.Rules.{abort_next, chosen_next, kept_next, loaded_plans_by, IsFresh, Puts, Locks_and_puts, Finds_or_puts, fresh_plan, read_key_next, told_op_next, Walks_over}
 use Rattle.moka_laws.proofs.Kept.{IsInvariant, in_reached}
 use Rattle.moka_laws.proofs.Steady.{step_rules}
 use Rattle.moka_laws.proofs.StepCases.{OnStep, step_cases}
 use Rattle.moka_laws.proofs.Outcomes.{Outcomes, outcomes, passes_on}
 use Rattle.moka_hist.specs.declared.loads.Compute.{Compute}
 use Rattle.moka_hist.specs.Computing.{after_told_op, after_read_key}
+use Rattle.moka_laws.proofs.Walks.{weigh_finds}
 
 none_in : {A : Type 0} (xs : List A) (x : A) → xs ≡ [] → Contains xs x → ⊥
 none_in xs x e h = let k = subst (λ v. Contains v x) e h in omega (arith, k.1)
@@ -134,6 +135,7 @@ module _ {K V E : Type 0} where
   form_calm rules p (Puts key value able e) off = absurd (false≢true (sym able ∙ off))
   form_calm rules p (Locks_and_puts key value able e) off = absurd (false≢true (sym able ∙ off))
   form_calm rules p (Finds_or_puts key value able) off = absurd (false≢true (sym able ∙ off))
+  form_calm rules p (Walks_over parts able) off = absurd (false≢true (sym able ∙ off))
   form_calm rules p _ off = refl
 
   module _ (eq : K → K → Bool) (w : World K V E) (n : ℕ) (c : Call K V E)
@@ -247,6 +249,20 @@ module _ {K V E : Type 0} where
             Some (k, old) → ⊥
         nothing k old some = none_some (sym (ap (taken_by (stamp_asked removal))
             (empty.stored key)) ∙ some)
+    on_item (plan.List_keys part) rest q = (
+      λ more. record { empty = record { stored = empty.stored; committed = empty.committed }; calm = p },
+      λ listed keys is gives. goes_on (map plan.Find keys ++ rest) (record { stored = empty.stored; committed = empty.committed })
+          (omega (arith, q, weigh_finds {E = E} stores (λ key. refl) keys rest)),
+    )
+    on_item (plan.Find key) rest q = (
+      λ more. record { empty = empty; calm = p },
+      λ none. goes_on rest empty (omega (arith, q)),
+      λ there seen some. record { empty = empty; calm = omega (arith, q) },
+    )
+    on_item (plan.Scan there found) rest q = (
+      λ seen. record { empty = empty; calm = omega (arith, q) },
+      λ unseen. goes_on rest empty (omega (arith, q)),
+    )
     on_item (plan.Reply a) rest q = record { empty = empty; calm = refl }
     on_item item rest q = passes_on eq Leaves w n c item rest tt
         (λ d. goes_on rest empty (omega (arith, q))) (record { empty = empty; calm = p })
@@ -295,8 +311,8 @@ module _ {K V E : Type 0} (eq : K → K → Bool) where
 
   idle_kept : IsInvariant eq IsIdle
   idle_kept = record {
-    fresh = λ rules size tests has_log. record {
-      locking = (locking_kept eq).fresh rules size tests has_log;
+    fresh = λ division divides rules size tests has_log. record {
+      locking = (locking_kept eq).fresh division divides rules size tests has_log;
       empty = λ off. record { stored = λ q. refl; committed = refl };
       calm = λ off n c live. absurd (none_some live);
     };
@@ -309,11 +325,11 @@ module _ {K V E : Type 0} (eq : K → K → Bool) where
       locking = (locking_kept eq).start s start i.locking;
       empty = i.empty;
       calm = λ off n c live.
-          put_cases s.calls (s.world.desk.last + 1) (Some (fresh_call s.world.desk.rules start)) n
+          put_cases s.calls (s.world.desk.last + 1) (Some (fresh_call s.world.table.division.parts s.world.desk.rules start)) n
           (Some c) (weigh stores c.plan ≡ 0) live
           (λ here is. subst (λ v. weigh_call stores v ≡ 0) is
-          (form_calm s.world.desk.rules (plan_of s.world.desk.rules start)
-          (fresh_plan s.world.desk.rules start) off))
+          (form_calm s.world.desk.rules (plan_of s.world.table.division.parts s.world.desk.rules start)
+          (fresh_plan s.world.table.division.parts s.world.desk.rules start) off))
           (λ there is. i.calm off n c is);
     };
     step = idle_step;

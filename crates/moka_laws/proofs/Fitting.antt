@@ -1,5 +1,5 @@
 -- A call's plan is of the kind of the load that it owns, and it may end that as it will.
-use Rattle.std.proofs.Common.{◌≡◌, ℕ, ◌+◌, ◌==◌, Bool, true, false, List, [], ◌∷◌, Option, Some, None, is_some, IsSomeAnd, refl, sym, ap, ◌∙◌, subst, arith}
+use Rattle.std.proofs.Common.{◌≡◌, ℕ, ◌+◌, ◌==◌, Bool, true, false, List, [], ◌∷◌, Option, Some, None, is_some, IsSomeAnd, refl, sym, ap, ◌∙◌, subst, arith, map, ◌++◌}
 use Rattle.std.proofs.lemmas.Bool.{false≢true}
 use Rattle.moka_hist.specs.Conditions.{may_end}
 use Rattle.moka_hist.specs.Dropping.{dropped}
@@ -31,7 +31,7 @@ use Rattle.moka_hist.specs.declared.visits.Takes.{Takes}
 use Rattle.moka_hist.specs.declared.visits.Found.TheVariants as found
 use Rattle.moka_hist.specs.declared.accesses.Turn.{Turn}
 use Rattle.moka_hist.specs.declared.accesses.Turn.TheVariants as turn
-use Rattle.moka_laws.proofs.Rules.{abort_next, put_plans, loaded_plans, kept_next, chosen_next, IsFresh, Takes_out, Locks_and_takes_out, fresh_plan, read_key_next, told_op_next_by, IsLoad, IsComputes}
+use Rattle.moka_laws.proofs.Rules.{abort_next, put_plans, loaded_plans, kept_next, chosen_next, IsFresh, Takes_out, Locks_and_takes_out, fresh_plan, read_key_next, told_op_next_by, IsLoad, IsComputes, Walks_over}
 use Rattle.moka_laws.proofs.TakesFit.{ItemTakes, AllTake, ToldFits, IsTaking, taking_kept, load_takes_no_op, compute_loses_none}
 use Rattle.moka_laws.proofs.Counting.{some_same, none_some, put_cases, put_here, put_there}
 use Rattle.moka_laws.proofs.Weights.{weigh}
@@ -45,6 +45,7 @@ use Rattle.moka_laws.proofs.Outcomes.{Outcomes, outcomes, computes_of, passes_by
 use Rattle.moka_hist.specs.declared.loads.Compute.{Compute}
 use Rattle.moka_hist.specs.Computing.{after_read_key, after_told_op}
 use Rattle.moka_hist.specs.declared.replies.Answer.{Answer}
+use Rattle.moka_laws.proofs.Walks.{weigh_walk, walk_is_walk}
 
 -- what is owned, if anything, is of this kind
 abbrev pub OwnsKind : {K : Type 0} → Option (Load K) → Kind → Type 0
@@ -249,9 +250,14 @@ module _ {K V E : Type 0} where
     said_fits (plan.To_remove_as_told own) key a f = (ends_nothing V E owned f, (tt, tt))
     said_fits _ key a f = (tt, tt)
 
+  keys_fit : (owned : Option (Load K)) (keys : List K) (rest : List (Item K V E)) → AllFit owned rest → AllFit owned (map plan.Find keys ++ rest)
+  keys_fit owned [] rest q = q
+  keys_fit owned (key ∷ keys) rest q = (tt, keys_fit owned keys rest q)
+
   fresh_free : (rules : Rules) (p : List (Item K V E)) → IsFresh rules p → weigh owners p ≡ 0
   fresh_free rules p (Takes_out (plan.To_remove_as_told own) key off named) = absurd named
   fresh_free rules p (Locks_and_takes_out (plan.To_remove_as_told own) key on named) = absurd named
+  fresh_free rules p (Walks_over parts able) = weigh_walk owners (record { list = λ part. refl; find = λ key. refl; scan = λ there stored. refl; end = refl }) p (walk_is_walk 0 parts)
   fresh_free rules p _ = refl
 
   -- ---- a step
@@ -378,6 +384,11 @@ module _ {K V E : Type 0} where
       (λ k old off some. as_was refl (tt, said_fits _ removal key _ q.0)),
       λ k old on some. as_was refl (tt, (tt, (tt, said_fits _ removal key _ q.0))),
     )
+    on_item (plan.List_keys part) rest q t f =
+        ((λ more. as_was refl p), λ listed keys e gives. goes_on (map plan.Find keys ++ rest) refl (keys_fit _ keys rest q.1))
+    on_item (plan.Find key) rest q t f =
+        ((λ more. as_was refl p), (λ none. goes_on rest refl q.1), λ k stored some. as_was refl (tt, q.1))
+    on_item (plan.Scan there stored) rest q t f = ((λ seen. as_was refl q.1), λ unseen. goes_on rest refl q.1)
     on_item (plan.Reply a) rest q t f = as_was refl tt
     on_item item rest q t f = passes_by eq (Leaves w n) w n c item rest tt
         (λ d a. goes_on rest a.owning q.1) (as_was refl p)
@@ -433,19 +444,19 @@ module _ {K V E : Type 0} (eq : K → K → Bool) where
     taking = (taking_kept eq).start s start i.taking;
     fit = λ n c live.
         let new : ℕ = s.world.desk.last + 1 in
-        put_cases s.calls new (Some (fresh_call s.world.desk.rules start)) n (Some c)
+        put_cases s.calls new (Some (fresh_call s.world.table.division.parts s.world.desk.rules start)) n (Some c)
         (AllFit (s.world.desk.owning n) c.plan) live
         (λ here is. subst (λ (d : Call K V E). AllFit (s.world.desk.owning n) d.plan)
         (some_same is)
-        (none_fit _ _ (fresh_free s.world.desk.rules _ (fresh_plan s.world.desk.rules start))))
+        (none_fit _ _ (fresh_free s.world.desk.rules _ (fresh_plan s.world.table.division.parts s.world.desk.rules start))))
         (λ there is. i.fit n c is);
   }
 
   pub fitting_kept : IsInvariant eq IsFitting
   fitting_kept = record {
-    fresh = λ rules size tests has_log. record {
-      served = (served_kept eq).fresh rules size tests has_log;
-      taking = (taking_kept eq).fresh rules size tests has_log;
+    fresh = λ division divides rules size tests has_log. record {
+      served = (served_kept eq).fresh division divides rules size tests has_log;
+      taking = (taking_kept eq).fresh division divides rules size tests has_log;
       fit = λ n c live. absurd (none_some live);
     };
     at = λ s moment i. record {

@@ -17,7 +17,7 @@ use Rattle.moka_hist.specs.declared.events.Event.TheVariants as event
 use Rattle.moka_hist.specs.declared.replies.Refusal.{Refusal}
 use Rattle.moka_hist.specs.declared.replies.Reply.{Reply}
 use Rattle.moka_hist.specs.declared.accesses.Turn.{Turn}
-use Rattle.moka_laws.specs.Starting.{Leads}
+use Rattle.moka_laws.specs.Starting.{HasMade, Leads}
 
 module _ {K V E : Type 0} (eq : K → K → Bool) where
   -- one event leads on; so does a step; and what leads on from there leads on from here
@@ -51,6 +51,22 @@ module _ {K V E : Type 0} (eq : K → K → Bool) where
         run =
             run_append s m t l.events k.events l.replies k.replies l.run k.run;
       }
+
+  -- a step that made the call what it is was made on the way to what follows
+  pub made_on : (s v : State K V E) (n : ℕ)
+      (What : State K V E → Call K V E → Turn K V E → State K V E → Type 0) → Leads eq s v →
+      HasMade eq s n What → HasMade eq v n What
+  made_on s v n What led m = record {
+    before = m.before;
+    reached = m.reached;
+    call = m.call;
+    live = m.live;
+    turn = m.turn;
+    after = m.after;
+    step = m.step;
+    what = m.what;
+    led = leads_more m.after s v m.led led;
+  }
 
   -- each event keeps it, as it leads on
   pub record IsFollowed (I : State K V E → Type 0) : Type 0 where

@@ -27,15 +27,16 @@ use Rattle.moka_laws.proofs.Counting.{none_some, some_same, put_cases, put_here,
 use Rattle.moka_laws.proofs.Kept.{IsStable, runs}
 use Rattle.moka_laws.proofs.Weights.{weigh}
 use Rattle.moka_laws.proofs.Owning.{plan_left}
-use Rattle.moka_laws.proofs.Plans.{Asking_op, Reading_key, IsTail, Answering, Settling, Looking, Owning, Giving, Putting, Removing, Locking_out, Draining, Ended, Locking, IsPlan, Posted, Drained, Posting, Hearing, Noticing, Listening, Unlocking, Turning, Applying, Ending, Reading, Writing, Freeing, Idling}
+use Rattle.moka_laws.proofs.Plans.{Asking_op, Reading_key, IsTail, Answering, Settling, Looking, Owning, Giving, Putting, Removing, Locking_out, Draining, Ended, Locking, IsPlan, Posted, Drained, Posting, Hearing, Noticing, Listening, Unlocking, Turning, Applying, Ending, Reading, Writing, Freeing, Idling, Walking}
 use Rattle.moka_laws.proofs.Reading.{OwnerOf, joins, joins_self, reader_joins}
 use Rattle.moka_laws.proofs.Reached.{step_reached}
-use Rattle.moka_laws.proofs.Roles.{Fits, awaited, owners}
+use Rattle.moka_laws.proofs.Roles.{Fits, awaited, owners, walk_awaits}
 use Rattle.moka_laws.proofs.Safe.{IsWell, well_kept, in_well}
 use Rattle.moka_laws.proofs.Served.{enough, enough_own, joined_numbered}
 use Rattle.moka_laws.proofs.StepCases.{OnStep, step_cases}
 use Rattle.moka_laws.proofs.Outcomes.{Outcomes, outcomes, computes_of, passes_by}
 use Rattle.moka_laws.proofs.Unread.{tail_role, drained_role, posted_role}
+use Rattle.moka_laws.proofs.Walks.{Ends, Finds, Lists, Scans}
 
 no_load : {L : Type 0} (o : Option L) → 0 ≡ cond {A = ℕ} (is_some o) 1 0 → o ≡ None
 no_load None e = refl
@@ -70,6 +71,10 @@ module _ {K V E : Type 0} where
   settles_form with rest p e (Drained q (Locking_out removal key)) = cc
   settles_form with rest p e (Drained q (Putting key value r t)) = cc
   settles_form with rest p e (Drained q (Locking key value r t)) = cc
+  settles_form with rest p e (Walking q Ends) = cc
+  settles_form with rest p e (Walking q (Lists part more walk)) = cc
+  settles_form with rest p e (Walking q (Finds key more walk)) = cc
+  settles_form with rest p e (Walking q (Scans there stored more walk)) = cc
   settles_form with rest p e _ = cc
 
   -- a call that waits for an owner is to read how that ended, and nothing else
@@ -91,6 +96,7 @@ module _ {K V E : Type 0} where
   reads_form p some (Writing key value moment q t) = absurd (not_none (awaited q) some (tail_role q t))
   reads_form p some (Freeing q t) = absurd (not_none (awaited q) some (tail_role q t))
   reads_form p some (Idling q t) = absurd (not_none (awaited q) some (tail_role q t))
+  reads_form p some (Walking q walk) = absurd (not_none (awaited q) some (walk_awaits q walk))
   reads_form p some _ = absurd (false≢true some)
 
   -- ---- what is kept
@@ -209,6 +215,14 @@ module _ {K V E : Type 0} where
         (λ k old off some. same refl refl refl),
         λ k old on some. same refl refl refl,
       )
+      on_item (plan.List_keys part) rest =
+          ((λ more. same refl refl refl), λ listed keys e gives. same refl refl refl)
+      on_item (plan.Find key) rest = (
+        (λ more. same refl refl refl),
+        (λ none. same refl refl refl),
+        λ q stored some. same refl refl refl,
+      )
+      on_item (plan.Scan there stored) rest = ((λ seen. same refl refl refl), λ unseen. same refl refl refl)
       on_item (plan.Reply a) rest = same refl refl refl
       on_item (plan.Notice key old cause upsert) rest =
           (λ e. same refl refl refl, λ e. same refl refl refl)
@@ -247,7 +261,7 @@ module _ {K V E : Type 0} where
         at = λ s moment i. record { well = (well_kept eq).at s moment i.well; gone = i.gone; given = i.given; kept = i.kept };
         start = λ s start i. record {
           well = (well_kept eq).start s start i.well;
-          gone = put_there s.calls (s.world.desk.last + 1) (Some (fresh_call s.world.desk.rules start)) o (differ (s.world.desk.last + 1) o (λ e. omega (arith, e, i.given))) ∙ i.gone;
+          gone = put_there s.calls (s.world.desk.last + 1) (Some (fresh_call s.world.table.division.parts s.world.desk.rules start)) o (differ (s.world.desk.last + 1) o (λ e. omega (arith, e, i.given))) ∙ i.gone;
           given = omega (arith, i.given);
           kept = i.kept;
         };

@@ -33,7 +33,7 @@ use Rattle.moka_hist.specs.declared.writes.Write.TheVariants.{Remove, Upsert}
 use Rattle.moka_hist.specs.Plan.{Removal}
 use Rattle.moka_hist.specs.declared.replies.Answer.{Answer}
 use Rattle.moka_hist.specs.Writing.{nothing_answer, removed_answer, said}
-use Rattle.moka_laws.proofs.Rules.{abort_next, put_plans, loaded_plans, kept_next, chosen_next, IsFresh, Disabled, fresh_plan, read_key_next, told_op_next}
+use Rattle.moka_laws.proofs.Rules.{abort_next, put_plans, loaded_plans, kept_next, chosen_next, IsFresh, Disabled, fresh_plan, read_key_next, told_op_next, Walks_over}
 use Rattle.moka_laws.proofs.Counting.{none_some, some_same, put_here, put_there, same_number}
 use Rattle.moka_laws.proofs.Sums.{sum_holds}
 use Rattle.moka_laws.proofs.Weights.{weigh, weigh_call}
@@ -46,6 +46,7 @@ use Rattle.moka_laws.proofs.StepCases.{OnStep, step_cases}
 use Rattle.moka_laws.proofs.Outcomes.{Outcomes, outcomes}
 use Rattle.moka_hist.specs.declared.loads.Compute.{Compute}
 use Rattle.moka_hist.specs.Computing.{after_told_op, after_read_key}
+use Rattle.moka_laws.proofs.Walks.{weigh_finds, weigh_walk, walk_is_walk}
 
 -- the call holds the place of a write of its own
 abbrev IsOwn : Option Holding → Type 0
@@ -133,6 +134,8 @@ module _ {K V E : Type 0} where
 
   fresh_free : (rules : Rules) (p : List (Item K V E)) → IsFresh rules p → weigh held p ≡ 0
   fresh_free rules p (Disabled a d plain) = refl
+  fresh_free rules p (Walks_over parts able) =
+      weigh_walk held (record { list = λ part. refl; find = λ key. refl; scan = λ there stored. refl; end = refl }) p (walk_is_walk 0 parts)
   fresh_free rules p _ = refl
 
   stays_weighs : (c : Call K V E) → weigh_call held (stays c).left ≡ 0
@@ -343,6 +346,21 @@ module _ {K V E : Type 0} where
         )
     on_item plan.Invalidate_all rest p q =
         keeps w.desk n (goes_holds n _ c rest (free_holds n _ rest q.1 q.0))
+    on_item (plan.List_keys part) rest p q = (
+      (λ more. keeps w.desk n p),
+      λ listed keys e gives. keeps w.desk n
+          (goes_holds n (w.desk.holding n) c (map plan.Find keys ++ rest)
+          (free_holds n (w.desk.holding n) (map plan.Find keys ++ rest) (weigh_finds held (λ key. refl) keys rest ∙ q.1) q.0)),
+    )
+    on_item (plan.Find key) rest p q = (
+      (λ more. keeps w.desk n p),
+      (λ none. keeps w.desk n (goes_holds n _ c rest (free_holds n _ rest q.1 q.0))),
+      λ k stored some. keeps w.desk n (q.0, q.1),
+    )
+    on_item (plan.Scan there stored) rest p q = (
+      (λ seen. keeps w.desk n (free_holds n _ rest q.1 q.0)),
+      λ unseen. keeps w.desk n (goes_holds n _ c rest (free_holds n _ rest q.1 q.0)),
+    )
     on_item plan.Idle rest p q =
         holds_now w.desk n None (goes_holds n None c rest (free_holds n None rest q.1 refl))
     on_item (plan.Reply answer) rest p q = holds_now w.desk n None refl
@@ -409,12 +427,12 @@ module _ {K V E : Type 0} (eq : K → K → Bool) where
       let new : ℕ = s.world.desk.last + 1 in
       let none : s.world.desk.holding new ≡ None =
       subst (λ v. HoldsAs new (s.world.desk.holding new) (plan_left v)) (next_free s i.balanced) (i.holds new) in
-      holds_on s new _ (Some (fresh_call s.world.desk.rules start)) i (record { own = free_holds new _ (plan_of s.world.desk.rules start) (fresh_free s.world.desk.rules _ (fresh_plan s.world.desk.rules start)) none; others = λ m e. refl })
+      holds_on s new _ (Some (fresh_call s.world.table.division.parts s.world.desk.rules start)) i (record { own = free_holds new _ (plan_of s.world.table.division.parts s.world.desk.rules start) (fresh_free s.world.desk.rules _ (fresh_plan s.world.table.division.parts s.world.desk.rules start)) none; others = λ m e. refl })
       ((balanced_kept eq).start s start i.balanced)
 
   pub holding_kept : IsInvariant eq (IsHolding {K = K} {V = V} {E = E})
   holding_kept = record {
-    fresh = λ rules size tests has_log. record { balanced = (balanced_kept eq).fresh rules size tests has_log; holds = λ n. refl };
+    fresh = λ division divides rules size tests has_log. record { balanced = (balanced_kept eq).fresh division divides rules size tests has_log; holds = λ n. refl };
     at = λ s moment i. record { balanced = (balanced_kept eq).at s moment i.balanced; holds = i.holds };
     start = holding_start;
     step = holding_step;

@@ -1,5 +1,5 @@
 -- A record that was chosen to leave is kept by cause.
-use Rattle.std.proofs.Common.{◌≡◌, ◌⊎◌, inl, inr, ℕ, ◌+◌, ◌<◌, ◌==◌, Bool, true, false, cond, List, [], ◌∷◌, Option, Some, None, refl, sym, ap, ◌∙◌, subst, arith}
+use Rattle.std.proofs.Common.{◌≡◌, ◌⊎◌, inl, inr, ℕ, ◌+◌, ◌<◌, ◌==◌, Bool, true, false, cond, List, [], ◌∷◌, Option, Some, None, refl, sym, ap, ◌∙◌, subst, arith, map, ◌++◌}
 use Rattle.std.proofs.lemmas.Bool.{eqb-true, false≢true}
 use Rattle.std.specs.Prelude.{IsSomeAnd}
 use Rattle.moka_hist.specs.Plan.{or_insert_plan, seek}
@@ -30,13 +30,14 @@ use Rattle.moka_hist.specs.declared.visits.Settled.TheVariants as settled
 use Rattle.moka_laws.specs.Removals.{StaysByCause, IsToKeep, KeepsByCause, KeptByCause}
 use Rattle.moka_laws.proofs.Counting.{differ_not, none_some, some_same, put_cases, put_here}
 use Rattle.moka_laws.proofs.Weights.{weigh, weigh_call}
-use Rattle.moka_laws.proofs.Rules.{IsAtOnce, IsFresh, Disabled, Gives_back, fresh_plan, shown_next, chosen_by, kept_next, loaded_plans, put_plans, read_key_next, told_op_next_by, IsComputed, unchanged_computed, put_computed}
+use Rattle.moka_laws.proofs.Rules.{IsAtOnce, IsFresh, Disabled, Gives_back, fresh_plan, shown_next, chosen_by, kept_next, loaded_plans, put_plans, read_key_next, told_op_next_by, IsComputed, unchanged_computed, put_computed, Walks_over}
 use Rattle.moka_laws.proofs.Kept as events
 use Rattle.moka_laws.proofs.StepCases.{OnStep, more_step, step_cases}
 use Rattle.moka_laws.proofs.Outcomes.{Outcomes, outcomes, passes_on}
 use Rattle.moka_hist.specs.declared.loads.Compute.{Compute}
 use Rattle.moka_hist.specs.Computing.{after_told_op, after_read_key}
 use Rattle.moka_hist.specs.Entries.{put_answer}
+use Rattle.moka_laws.proofs.Walks.{weigh_finds, weigh_walk, walk_is_walk}
 
 -- 1 where the answer is that the record was kept
 abbrev kept : {K V E : Type 0} → Answer K V E → ℕ
@@ -205,6 +206,7 @@ module _ {K V E : Type 0} where
   form_calm : (rules : Rules) (p : List (Item K V E)) → IsFresh rules p → weigh keeping p ≡ 0
   form_calm rules p (Disabled a d once) = omega (arith, once_kept a once)
   form_calm rules p (Gives_back a d once) = omega (arith, once_kept a once)
+  form_calm rules p (Walks_over parts able) = weigh_walk keeping (record { list = λ part. refl; find = λ key. refl; scan = λ there stored. refl; end = refl }) p (walk_is_walk 0 parts)
   form_calm rules p _ = refl
 
 module _ {K V E : Type 0} (s : State K V E) where
@@ -449,6 +451,20 @@ module _ {K V E : Type 0} (s : State K V E) where
             (record { left = omega (arith, q); turn = λ f. cc }),
       )
       on_item (plan.Out removal key) rest q = out_by removal key p eq n rest
+      on_item (plan.List_keys part) rest q = (
+        λ more. quiet (plan.List_keys part) _ (λ h. h) (record { left = p; turn = λ f. cc }),
+        λ listed keys is gives. quiet (plan.List_keys part) _ (λ h. h)
+            (goes_quiet c (map plan.Find keys ++ rest) (omega (arith, q, weigh_finds {E = E} keeping (λ key. refl) keys rest))),
+      )
+      on_item (plan.Find key) rest q = (
+        λ more. quiet (plan.Find key) _ (λ h. h) (record { left = p; turn = λ f. cc }),
+        λ none. quiet (plan.Find key) _ (λ h. h) (goes_quiet c rest (omega (arith, q))),
+        λ there seen some. quiet (plan.Find key) _ (λ h. h) (record { left = omega (arith, q); turn = λ f. cc }),
+      )
+      on_item (plan.Scan there found) rest q = (
+        λ seen. quiet (plan.Scan there found) _ (λ h. h) (record { left = omega (arith, q); turn = λ f. cc }),
+        λ unseen. quiet (plan.Scan there found) _ (λ h. h) (goes_quiet c rest (omega (arith, q))),
+      )
       on_item (plan.Reply a) rest q =
           quiet (plan.Reply a) _ (λ h. h) (record {
             left = refl;
@@ -535,12 +551,12 @@ module _ {K V E : Type 0} (eq : K → K → Bool) where
 
   calm_kept : events.IsInvariant eq AreCalm
   calm_kept = record {
-    fresh = λ rules size tests has_log n c live. absurd (none_some live);
+    fresh = λ division divides rules size tests has_log n c live. absurd (none_some live);
     at = λ s moment i. i;
     start = λ s start i n c live.
-        put_cases s.calls (s.world.desk.last + 1) (Some (fresh_call s.world.desk.rules start)) n
+        put_cases s.calls (s.world.desk.last + 1) (Some (fresh_call s.world.table.division.parts s.world.desk.rules start)) n
         (Some c) (Calm c.plan) live
-        (λ here is. subst CalmIf is (inl (form_calm s.world.desk.rules _ (fresh_plan s.world.desk.rules start))))
+        (λ here is. subst CalmIf is (inl (form_calm s.world.desk.rules _ (fresh_plan s.world.table.division.parts s.world.desk.rules start))))
         (λ there is. i n c is);
     step = calm_step;
     tell = λ s n given asked i. i;

@@ -262,6 +262,18 @@ module _ {K V E : Type 0} where
             (λ k old off some. same refl refl refl idle),
             λ k old on some. same refl refl refl idle,
           )
+      on_item (plan.List_keys part) rest e =
+          let idle = idle_by (plan.List_keys part) rest e refl in
+          (λ more. same refl refl refl idle, λ listed keys is gives. same refl refl refl idle)
+      on_item (plan.Find key) rest e =
+          let idle = idle_by (plan.Find key) rest e refl in (
+            λ more. same refl refl refl idle,
+            λ none. same refl refl refl idle,
+            λ k stored some. same refl refl refl idle,
+          )
+      on_item (plan.Scan there stored) rest e =
+          let idle = idle_by (plan.Scan there stored) rest e refl in
+          (λ seen. same refl refl refl idle, λ unseen. same refl refl refl idle)
       on_item (plan.Reply a) rest e =
           same refl refl refl (idle_by (plan.Reply a) rest e refl)
       on_item (plan.Notice key old cause upsert) rest e =
@@ -445,8 +457,8 @@ module _ {K V E : Type 0} (eq : K → K → Bool) where
 
   ends_kept : IsInvariant eq EndsFit
   ends_kept = record {
-    fresh = λ rules size tests has_log. record {
-      well = (well_kept eq).fresh rules size tests has_log;
+    fresh = λ division divides rules size tests has_log. record {
+      well = (well_kept eq).fresh division divides rules size tests has_log;
       ended = λ o with e. absurd (none_some e);
       reads = λ m o load with j a e. absurd (none_some j);
     };

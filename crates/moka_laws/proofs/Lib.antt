@@ -5,6 +5,14 @@ pub mod Steady
 pub mod Rules
 pub mod OwnKeysKept
 pub mod Outcomes
+pub mod Walks
+pub mod NoWalks
+pub mod Counted
+pub mod WalkPlans
+pub mod Walkers
+pub mod Bounds
+pub mod WalksGive
+pub mod WalksFind
 pub mod Counting
 pub mod Weights
 pub mod Holding
@@ -81,3 +89,6 @@ pub mod Alongside
 pub mod Looking
 pub mod Accessed
 pub mod Hiding
+pub mod FollowingIn
+pub mod WalksKeep
+pub mod WalksAlone

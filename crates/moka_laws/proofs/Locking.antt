@@ -1,5 +1,5 @@
 -- A call holds a lock exactly between its locking and its freeing, where a listener is set.
-use Rattle.std.proofs.Common.{◌≡◌, ℕ, ◌+◌, ◌==◌, Bool, true, false, cond, List, [], ◌∷◌, Option, Some, None, is_some, IsSome, IsNone, refl, sym, ap, ◌∙◌, subst, arith}
+use Rattle.std.proofs.Common.{◌≡◌, ℕ, ◌+◌, ◌==◌, Bool, true, false, cond, List, [], ◌∷◌, Option, Some, None, is_some, IsSome, IsNone, refl, sym, ap, ◌∙◌, subst, arith, map, ◌++◌}
 use Rattle.std.proofs.lemmas.Bool.{eqb-true, false≢true}
 use Rattle.moka_hist.specs.declared.replies.Answer.TheVariants as reply
 use Rattle.moka_hist.specs.Finite.{put_at}
@@ -30,7 +30,7 @@ use Rattle.moka_laws.proofs.Weights.{weigh}
 use Rattle.moka_laws.proofs.Balance.{IsBalanced}
 use Rattle.moka_laws.proofs.Balanced.{balanced_kept, next_free}
 use Rattle.moka_laws.proofs.Owning.{plan_left}
-use Rattle.moka_laws.proofs.Rules.{put_plans_by, loaded_plans_by, kept_next, chosen_by, IsFresh, Puts, Locks_and_puts, Takes_out, Locks_and_takes_out, Evicts, Locks_and_evicts, fresh_plan, read_key_next, told_op_next}
+use Rattle.moka_laws.proofs.Rules.{put_plans_by, loaded_plans_by, kept_next, chosen_by, IsFresh, Puts, Locks_and_puts, Takes_out, Locks_and_takes_out, Evicts, Locks_and_evicts, fresh_plan, read_key_next, told_op_next, Walks_over}
 use Rattle.moka_laws.proofs.Kept.{IsInvariant, in_reached}
 use Rattle.moka_laws.proofs.StepCases.{OnStep, step_cases}
 use Rattle.moka_laws.proofs.Outcomes.{Outcomes, outcomes}
@@ -41,6 +41,7 @@ use Rattle.moka_hist.specs.Computing.{end_compute}
 use Rattle.moka_hist.specs.Writing.{cause_handed, nothing_answer, removed_answer}
 use Rattle.moka_hist.specs.declared.writes.Write.TheVariants.{Remove}
 use Rattle.moka_laws.proofs.Rules.{said_next}
+use Rattle.moka_laws.proofs.Walks.{weigh_walk, weigh_finds, walk_is_walk}
 
 true_false : true ≡ false → ⊥
 true_false e = false≢true (sym e)
@@ -530,6 +531,21 @@ module _ {K V E : Type 0} where
           (keeps w.desk n c refl (took removal key rest (plan.Notice key old (cause_handed removal) false ∷ plan.Unlock true ∷ plan.Post (Remove n old.stamp) ∷ plan.Reply _ ∷ []) (λ f. absurd (true_false (sym on ∙ f))) (λ f k i. (i, refl)) q))
           (keeps w.desk n c refl (took removal key rest (plan.Notice key old (cause_handed removal) false ∷ plan.Unlock true ∷ plan.Post (Remove n old.stamp) ∷ end_compute _) (λ f. absurd (true_false (sym on ∙ f))) (λ f k i. (i, refl)) q)),
     )
+    on_item (plan.List_keys part) rest p q = (
+      (λ more. keeps w.desk n c refl p),
+      λ listed keys e gives. goes_on w.desk n c (map plan.Find keys ++ rest)
+          (like _ _ q (λ h. omega (arith, weigh_finds {E = E} of_key (λ key. refl) keys rest))
+          (λ h. calm_outside (map plan.Find keys ++ rest) (weigh_finds of_lock (λ key. refl) keys rest ∙ h)) (λ k i. absurd i)),
+    )
+    on_item (plan.Find key) rest p q = (
+      (λ more. keeps w.desk n c refl p),
+      (λ none. goes_on w.desk n c rest (like _ _ q (λ h. omega arith) (λ h. calm_outside rest h) (λ k i. absurd i))),
+      λ k stored some. keeps w.desk n c refl (like _ _ q (λ h. omega arith) (λ h. h) (λ k i. absurd i)),
+    )
+    on_item (plan.Scan there stored) rest p q = (
+      (λ seen. keeps w.desk n c refl (like _ _ q (λ h. omega arith) (λ h. calm_outside rest h) (λ k i. absurd i))),
+      λ unseen. goes_on w.desk n c rest (like _ _ q (λ h. omega arith) (λ h. calm_outside rest h) (λ k i. absurd i)),
+    )
     on_item (plan.Reply a) rest p q = keeps w.desk n c tt (free _ refl q (λ k i. i))
     on_item _ rest p q = goes_on w.desk n c rest (like _ _ q (λ h. omega arith) (λ h. calm_outside rest h) (λ k i. absurd i))
 
@@ -583,10 +599,13 @@ module _ {K V E : Type 0} where
       starts rules.listener _ refl (λ e. absurd (true_false (sym e ∙ off)))
   fresh_form rules p (Locks_and_evicts key stamp cause on) =
       starts_locked rules.listener _ on (refl, refl, refl)
+  fresh_form rules p (Walks_over parts able) =
+      starts rules.listener p (weigh_walk of_key (record { list = λ part. refl; find = λ key. refl; scan = λ there stored. refl; end = refl }) p (walk_is_walk 0 parts))
+      (λ e. calm_outside p (weigh_walk of_lock (record { list = λ part. refl; find = λ key. refl; scan = λ there stored. refl; end = refl }) p (walk_is_walk 0 parts)))
   fresh_form rules p _ = starts rules.listener _ refl (λ e. refl)
 
-  fresh_locks : (rules : Rules) (start : Start K V) → Locks rules.listener None (plan_of rules start)
-  fresh_locks rules start = fresh_form rules (plan_of rules start) (fresh_plan rules start)
+  fresh_locks : (parts : ℕ) (rules : Rules) (start : Start K V) → Locks rules.listener None (plan_of parts rules start)
+  fresh_locks parts rules start = fresh_form rules (plan_of parts rules start) (fresh_plan parts rules start)
 
 module _ {K V E : Type 0} (eq : K → K → Bool) where
   locks_on : (s : State K V E) (n : ℕ) (c : Call K V E) (w : World K V E) (left : Option (Call K V E)) → IsLocking s →
@@ -623,18 +642,18 @@ module _ {K V E : Type 0} (eq : K → K → Bool) where
   locking_start s start i =
       let new : ℕ = s.world.desk.last + 1 in
       let none : s.world.desk.locked new ≡ None = none_locked _ _ _ (i.locks new) (ap plan_left (next_free s i.balanced)) in
-      locks_on s new (fresh_call s.world.desk.rules start) _ (Some (fresh_call s.world.desk.rules start)) i refl (record {
+      locks_on s new (fresh_call s.world.table.division.parts s.world.desk.rules start) _ (Some (fresh_call s.world.table.division.parts s.world.desk.rules start)) i refl (record {
         desk = refl;
         call = refl;
-        own = subst (λ v. Locks s.world.desk.rules.listener v (plan_of {E = E} s.world.desk.rules start)) (sym none)
-            (fresh_locks s.world.desk.rules start);
+        own = subst (λ v. Locks s.world.desk.rules.listener v (plan_of {E = E} s.world.table.division.parts s.world.desk.rules start)) (sym none)
+            (fresh_locks s.world.table.division.parts s.world.desk.rules start);
         others = λ m e. refl;
       }) ((balanced_kept eq).start s start i.balanced)
 
   pub locking_kept : IsInvariant eq (IsLocking {K = K} {V = V} {E = E})
   locking_kept = record {
-    fresh = λ rules size tests has_log. record {
-      balanced = (balanced_kept eq).fresh rules size tests has_log;
+    fresh = λ division divides rules size tests has_log. record {
+      balanced = (balanced_kept eq).fresh division divides rules size tests has_log;
       rules = λ n c live. absurd (none_some live);
       locks = λ n. record { none = λ e. (refl, refl); outside = λ e f. tt; inside = λ e k f. absurd (none_some f) };
     };

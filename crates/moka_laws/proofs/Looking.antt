@@ -21,9 +21,8 @@ use Rattle.moka_hist.specs.declared.visits.Settled.TheVariants as settled
 use Rattle.moka_laws.specs.Looks.{GetsMiss, GetsShow, HasDecided, InsertsShow, LoadsShow, LooksUp, OwnersShow, SeesNothing, SeesValue, is_visible_in}
 use Rattle.moka_laws.specs.Starting.{HasMade, Leads, WasStarted}
 use Rattle.moka_laws.proofs.Alongside.{HoldsIf, holds_since}
-use Rattle.moka_laws.proofs.Computing.{made_on}
 use Rattle.moka_laws.proofs.Counting.{none_some, put_here, some_same}
-use Rattle.moka_laws.proofs.Following.{no_leads, step_leads}
+use Rattle.moka_laws.proofs.Following.{made_on, no_leads, step_leads}
 use Rattle.moka_laws.proofs.Outcomes.{outcomes}
 use Rattle.moka_laws.proofs.Owning.{plan_left}
 use Rattle.moka_laws.proofs.Rules.{put_plans}
@@ -383,7 +382,7 @@ module _ {K V E : Type 0} (eq : K → K → Bool) (key : K) (n : ℕ) where
           (sym (off_step s t step.call r step.live off.0 step).0) tt
 
   begins : (v : State K V E) → Gets (started v (start.Get key))
-      (fresh_call v.world.desk.rules (start.Get key))
+      (fresh_call v.world.table.division.parts v.world.desk.rules (start.Get key))
   begins v = by (is_disabled v.world.desk.rules) refl
     where
       by : (b : Bool) → is_disabled v.world.desk.rules ≡ b →

@@ -39,14 +39,15 @@ use Rattle.moka_laws.proofs.Weights.{weigh_call}
 use Rattle.moka_laws.proofs.Posts.{once, among, among_owed, post_of, posts_held}
 use Rattle.moka_laws.proofs.Balance.{times_first, times_last}
 use Rattle.moka_laws.proofs.Owning.{plan_left}
-use Rattle.moka_laws.proofs.Plans.{IsTail, Answering, Settling, IsDrained, Looking, Putting, IsPosted, Draining, Ended, Locking, IsPlan, Posted, Drained, Posting, Hearing, Noticing, Listening, Unlocking, Turning, Applying, Ending, Judging, Owning, Giving, Reading, Asking, Telling, Writing, IsLook, Removing, Locking_out, Choosing, Finding, Chosen, Taking, Freeing, Hiding, Idling, Asking_op, Owning_key, Owning_alone, Reading_key, Telling_op}
+use Rattle.moka_laws.proofs.Plans.{IsTail, Answering, Settling, IsDrained, Looking, Putting, IsPosted, Draining, Ended, Locking, IsPlan, Posted, Drained, Posting, Hearing, Noticing, Listening, Unlocking, Turning, Applying, Ending, Judging, Owning, Giving, Reading, Asking, Telling, Writing, IsLook, Removing, Locking_out, Choosing, Finding, Chosen, Taking, Freeing, Hiding, Idling, Asking_op, Owning_key, Owning_alone, Reading_key, Telling_op, Walking}
 use Rattle.moka_laws.proofs.Replacing.{IsReplacing, replacing_kept, not_opened}
-use Rattle.moka_laws.proofs.Rules.{abort_next, put_plans, loaded_plans, kept_next, chosen_next, IsFresh, Disabled, fresh_plan, read_key_next, told_op_next}
+use Rattle.moka_laws.proofs.Rules.{abort_next, put_plans, loaded_plans, kept_next, chosen_next, IsFresh, Disabled, fresh_plan, read_key_next, told_op_next, Walks_over}
 use Rattle.moka_laws.proofs.Kept.{IsInvariant, in_reached}
 use Rattle.moka_laws.proofs.StepCases.{OnStep, step_cases}
 use Rattle.moka_laws.proofs.Outcomes.{outcomes}
 use Rattle.moka_hist.specs.declared.loads.Compute.{Compute}
 use Rattle.moka_hist.specs.Computing.{after_told_op, after_read_key}
+use Rattle.moka_laws.proofs.Walks.{Ends, Finds, IsWalk, Lists, Scans, Walks, Walks_giving, Walks_on, Walks_still, on_walk, walk_is_walk}
 
 -- ---- notices that are heard
 
@@ -173,8 +174,34 @@ module _ {K V E : Type 0} where
       (λ on. refl)
       (h)
 
+  pub walk_none : (n : ℕ) (p : List (Item K V E)) → IsWalk p → naming n p ≡ None
+  walk_none n p Ends = refl
+  walk_none n p (Lists part rest walk) = refl
+  walk_none n p (Finds key rest walk) = refl
+  walk_none n p (Scans there stored rest walk) = refl
+
+  -- nor does a walk hear a notice
+  walk_quiet : (n : ℕ) (p : List (Item K V E)) → IsWalk p → hearing n p ≡ None
+  walk_quiet n p Ends = refl
+  walk_quiet n p (Lists part rest walk) = refl
+  walk_quiet n p (Finds key rest walk) = refl
+  walk_quiet n p (Scans there stored rest walk) = refl
+
+  goes_none : (n : ℕ) (c : Call K V E) (p : List (Item K V E)) → IsWalk p → naming n (plan_left (goes c p).left) ≡ None
+  goes_none n c p Ends = refl
+  goes_none n c p (Lists part rest walk) = refl
+  goes_none n c p (Finds key rest walk) = refl
+  goes_none n c p (Scans there stored rest walk) = refl
+
+  pub walks_none : (n : ℕ) (c : Call K V E) → naming n c.plan ≡ None → (next : Next K V E) → Walks c next →
+      naming n (plan_left next.left) ≡ None
+  walks_none n c none next (Walks_on rest walk) = goes_none n c rest walk
+  walks_none n c none next Walks_still = none
+  walks_none n c none next (Walks_giving key value rest walk) = walk_none n rest walk
+
   pub form_none : (n : ℕ) (rules : Rules) (p : List (Item K V E)) → IsFresh rules p → naming n p ≡ None
   form_none n rules p (Disabled a d plain) = refl
+  form_none n rules p (Walks_over parts able) = walk_none n p (walk_is_walk 0 parts)
   form_none n rules p _ = refl
 
   -- a plan that hears a notice posts a write
@@ -198,6 +225,10 @@ module _ {K V E : Type 0} where
   hears_held n y p (Drained rest (Locking_out removal key)) e = absurd (none_some e)
   hears_held n y p (Drained rest (Putting key value more t)) e = absurd (none_some e)
   hears_held n y p (Drained rest (Locking key value more t)) e = absurd (none_some e)
+  hears_held n y p (Walking rest Ends) e = absurd (none_some e)
+  hears_held n y p (Walking rest (Lists part more walk)) e = absurd (none_some e)
+  hears_held n y p (Walking rest (Finds key more walk)) e = absurd (none_some e)
+  hears_held n y p (Walking rest (Scans there stored more walk)) e = absurd (none_some e)
   hears_held n y p _ e = absurd (none_some e)
   -- ---- notices with the desk
 
@@ -469,6 +500,10 @@ module _ {K V E : Type 0} where
         (plain w.desk n o t p _ refl (tail_none n c rest q))
     on_plan p e h Hiding = outcomes eq (Made p) w n c plan.Invalidate_all (plan.Reply reply.Done ∷ [])
         (plain w.desk n o t p _ refl refl)
+    on_plan p e h (Walking rest walk) = on_walk eq (Made p) w n c rest walk
+        (λ listings stay next on. plain w.desk n o t p _ (walk_quiet n p walk)
+        (walks_none n c (ap (naming n) e ∙ walk_none n p walk) next on))
+        (plain w.desk n o t p _ (walk_quiet n p walk) refl)
     on_plan p e h (Idling rest q) = outcomes eq (Made p) w n c plan.Idle rest
         (plain w.desk n o t p _ refl (tail_none n c rest q))
 
@@ -554,11 +589,11 @@ module _ {K V E : Type 0} (eq : K → K → Bool) where
   noticing_start : (s : State K V E) (start : Start K V) → IsNoticing s → IsNoticing (started s start)
   noticing_start s start i =
       let new : ℕ = s.world.desk.last + 1 in
-      let d : Call K V E = fresh_call s.world.desk.rules start in
+      let d : Call K V E = fresh_call s.world.table.division.parts s.world.desk.rules start in
       record {
         replacing = (replacing_kept eq).start s start i.replacing;
         named = λ m b lives. put_cases s.calls new (Some d) m (Some b) (IsNamed m b.plan) lives
-            (λ here is. subst (λ v. IsNamed m (plan_left v)) is (unnamed m (plan_of s.world.desk.rules start) (form_none m s.world.desk.rules _ (fresh_plan s.world.desk.rules start))))
+            (λ here is. subst (λ v. IsNamed m (plan_left v)) is (unnamed m (plan_of s.world.table.division.parts s.world.desk.rules start) (form_none m s.world.desk.rules _ (fresh_plan s.world.table.division.parts s.world.desk.rules start))))
             (λ there is. i.named m b is);
         owed_named = i.owed_named;
         noted = i.noted;
@@ -662,8 +697,8 @@ module _ {K V E : Type 0} (eq : K → K → Bool) where
 
   pub noticing_kept : IsInvariant eq (IsNoticing {K = K} {V = V} {E = E})
   noticing_kept = record {
-    fresh = λ rules size tests has_log. record {
-      replacing = (replacing_kept eq).fresh rules size tests has_log;
+    fresh = λ division divides rules size tests has_log. record {
+      replacing = (replacing_kept eq).fresh division divides rules size tests has_log;
       named = λ n c live. absurd (none_some live);
       owed_named = tt;
       noted = record { numbered = λ n x e. absurd (none_some e); opened_once = λ n. refl; skipped = λ n x e s. absurd (none_some e) };

@@ -1,6 +1,6 @@
 -- Whatever is stored and handed out was given. What is fair here, of a plan, a desk or a table, is
 -- to store only what was given, and to hand out only what was given for an equal key.
-use Rattle.std.proofs.Common.{◌≡◌, ℕ, ◌+◌, ◌==◌, Bool, true, false, cond, ◌&&◌, nat_lt, is_some, List, [], ◌∷◌, Option, Some, None, MatchOption, ◌⊎◌, inl, inr, refl, sym, ap, ◌∙◌, subst}
+use Rattle.std.proofs.Common.{◌≡◌, ℕ, ◌+◌, ◌==◌, Bool, true, false, cond, ◌&&◌, nat_lt, is_some, List, [], ◌∷◌, Option, Some, None, MatchOption, ◌⊎◌, inl, inr, refl, sym, ap, ◌∙◌, subst, map, ◌++◌}
 use Rattle.std.specs.Cmp.{IsEquivalence}
 use Rattle.std.specs.Prelude.{IsSomeAnd, unwrap_or}
 use Rattle.std.proofs.lemmas.Bool.{eqb-true}
@@ -8,8 +8,8 @@ use Rattle.std.specs.Option.{option_and_then, option_map}
 use Rattle.moka_hist.specs.Dropping.{dropped}
 use Rattle.moka_hist.specs.Finite.{load_eq, put_at, put_key}
 use Rattle.moka_hist.specs.Visits.{owners_without, settled_with, settled_without, settlement_for}
-use Rattle.moka_hist.specs.State.{State, World, Call, DeskPart, fresh}
-use Rattle.moka_hist.specs.Plan.{Item, Aim, told_on, Removal, plan_of, is_disabled, put, get_plan, insert_plan, load_plan, or_insert_plan, seek, take_out, under_lock}
+use Rattle.moka_hist.specs.State.{State, World, Call, DeskPart, fresh, Division}
+use Rattle.moka_hist.specs.Plan.{Item, Aim, told_on, Removal, plan_of, is_disabled, put, get_plan, insert_plan, load_plan, or_insert_plan, seek, take_out, under_lock, iter_plan}
 use Rattle.moka_hist.specs.Plan as plan
 use Rattle.moka_hist.specs.Next.{Next, goes}
 use Rattle.moka_hist.specs.Looking.{finds_pair, hits, keeps, misses}
@@ -53,6 +53,7 @@ use Rattle.moka_laws.proofs.StepCases.{OnStep, step_cases}
 use Rattle.moka_laws.proofs.Outcomes.{Outcomes, computes_of, outcomes, passes_by}
 use Rattle.moka_laws.proofs.StartedOnce.{started_once}
 use Rattle.moka_laws.proofs.Giving.{GivesOnly, IsKeptGiving, along, goings}
+use Rattle.moka_laws.proofs.Walks.{Ends, Finds, IsWalk, Lists, Scans, Walks, Walks_giving, Walks_on, Walks_still, on_walk, walk_is_walk}
 
 -- what is taken out is gone, and what is left was there
 out_was : {A : Type 0} (b : Bool) (p : A) (old : Option A) → cond b None old ≡ Some p → old ≡ Some p
@@ -196,6 +197,10 @@ module _ {K V E : Type 0} (P R : K → V → Type 0) (q : K) where
   -- the call is left so, and hands out a value of R, if any
   abbrev NextFair : Option (Told V E) → Next K V E → Type 0
   NextFair told next = CallFair told next.left × ValueFair R q (handed (reply_of next.turn))
+
+  keys_fair : (keys : List K) (rest : List (Item K V E)) → RestFair rest → RestFair (map plan.Find keys ++ rest)
+  keys_fair [] rest f = f
+  keys_fair (key ∷ keys) rest f = (tt, keys_fair keys rest f)
 
   rest_fair : (told : Option (Told V E)) (rest : List (Item K V E)) → RestFair rest →
       PlanFair told rest
@@ -607,6 +612,19 @@ module _ {K V E : Type 0} (P R : K → V → Type 0) (q : K) where
               R q old.value
           out there old some =
               seen key there old f.0 (taken_was (stamp_asked removal) _ (there, old) some)
+      on_item (plan.List_keys part) rest is f = (
+        λ more. still table desk refl (p, none_fair R q),
+        λ listed keys e gives. goes_on (map plan.Find keys ++ rest) table desk refl (keys_fair keys rest f.1),
+      )
+      on_item (plan.Find key) rest is f = (
+        λ more. still table desk refl (p, none_fair R q),
+        λ none. goes_on rest table desk refl f.1,
+        λ there stored some. goes_on (plan.Scan there stored ∷ rest) table desk refl (tt, f.1),
+      )
+      on_item (plan.Scan there stored) rest is f = (
+        λ yes. still table desk refl (rest_fair (w.desk.told n) rest f.1, none_fair R q),
+        λ no. goes_on rest table desk refl f.1,
+      )
       on_item (plan.Reply a) rest is f = still table desk refl (tt, f.0)
       on_item item rest is f = passes_by eq After w n c item rest tt
           (λ d a. goes_on rest table (rw (a.owners, a.joined, a.settled) desk) a.told f.1)
@@ -644,34 +662,54 @@ module _ {K V : Type 0} (E : Type 0) (P R : K → V → Type 0) where
   or_insert_fair q true value h r = (tt, (one_fair R q value r, tt))
   or_insert_fair q false value h r = (tt, ((refl, (h, refl)), tt))
 
-  fresh_fair : ((q : K) (value : V) → P q value → R q value) → (rules : Rules)
+  walk_fair : (q : K) (p : List (Item K V E)) → IsWalk p → RestFair P R q p
+  walk_fair q p Ends = (none_fair R q, tt)
+  walk_fair q p (Lists part rest walk) = (tt, walk_fair q rest walk)
+  walk_fair q p (Finds key rest walk) = (tt, walk_fair q rest walk)
+  walk_fair q p (Scans there stored rest walk) = (tt, walk_fair q rest walk)
+
+  iter_fair : (q : K) (b : Bool) (parts : ℕ) → RestFair P R q (iter_plan {E = E} b parts)
+  iter_fair q true parts = (none_fair R q, tt)
+  iter_fair q false parts = walk_fair q _ (walk_is_walk 0 parts)
+
+  fresh_fair : ((q : K) (value : V) → P q value → R q value) → (parts : ℕ) (rules : Rules)
       (start : Start K V) →
       ((key : K) (value : V) → brought start ≡ Some (key, value) → P key value) → (none : K) →
-      RestFair P R (unwrap_or (key_started start) none) (plan_of {E = E} rules start)
-  fresh_fair own rules (start.Get key) h none = get_fair key (is_disabled rules)
-  fresh_fair own rules (start.Insert key value) h none =
+      RestFair P R (unwrap_or (key_started start) none) (plan_of {E = E} parts rules start)
+  fresh_fair own parts rules (start.Get key) h none = get_fair key (is_disabled rules)
+  fresh_fair own parts rules (start.Insert key value) h none =
       insert_fair key (is_disabled rules) rules value (h key value refl)
-  fresh_fair own rules (start.GetWith key replace) h none =
+  fresh_fair own parts rules (start.GetWith key replace) h none =
       load_fair (is_disabled rules) (seek kind.GetWith key replace)
-  fresh_fair own rules (start.Optional key) h none =
+  fresh_fair own parts rules (start.Optional key) h none =
       load_fair (is_disabled rules) (seek kind.Optional key None)
-  fresh_fair own rules (start.Try key) h none = load_fair (is_disabled rules) (seek kind.Try key None)
-  fresh_fair own rules (start.OrInsert key value) h none =
+  fresh_fair own parts rules (start.Try key) h none = load_fair (is_disabled rules) (seek kind.Try key None)
+  fresh_fair own parts rules (start.OrInsert key value) h none =
       or_insert_fair key (is_disabled rules) value (h key value refl)
       (own key value (h key value refl))
-  fresh_fair own rules (start.Invalidate key) h none = (tt, lock_fair key rules.listener _ (refl, tt))
-  fresh_fair own rules (start.Remove key) h none = (tt, lock_fair key rules.listener _ (refl, tt))
-  fresh_fair own rules (start.Evict key stamp cause) h none =
+  fresh_fair own parts rules (start.Invalidate key) h none = (tt, lock_fair key rules.listener _ (refl, tt))
+  fresh_fair own parts rules (start.Remove key) h none = (tt, lock_fair key rules.listener _ (refl, tt))
+  fresh_fair own parts rules (start.Evict key stamp cause) h none =
       lock_fair key rules.listener _ ((refl, refl), tt)
-  fresh_fair own rules start.InvalidateAll h none = (tt, (none_fair R none, tt))
-  fresh_fair own rules _ h none = (refl, tt)
+  fresh_fair own parts rules start.InvalidateAll h none = (tt, (none_fair R none, tt))
+  fresh_fair own parts rules start.Iter h none = iter_fair none (is_disabled rules) parts
+  fresh_fair own parts rules _ h none = (refl, tt)
 
--- a call that is started for no key hides all
-keyless_plan : {K V : Type 0} (E : Type 0) (rules : Rules) (begin : Start K V) →
+-- the plan is that of a call without a key: it hides all, or walks
+abbrev IsKeyless : {K V E : Type 0} → List (Item K V E) → Type 0
+IsKeyless rest = (rest ≡ plan.Invalidate_all ∷ plan.Reply answer.Done ∷ []) ⊎ IsWalk rest
+
+-- a call that is started for no key has such a plan
+keyless_plan : {K V : Type 0} (E : Type 0) (parts : ℕ) (rules : Rules) (begin : Start K V) →
     key_started begin ≡ None →
-    plan_of {E = E} rules begin ≡ plan.Invalidate_all ∷ plan.Reply answer.Done ∷ []
-keyless_plan E rules start.InvalidateAll e = refl
-keyless_plan E rules _ e = absurd (none_some (sym e))
+    IsKeyless (plan_of {E = E} parts rules begin)
+keyless_plan E parts rules start.InvalidateAll e = inl refl
+keyless_plan {K} {V} E parts rules start.Iter e = by (is_disabled rules)
+  where
+    by : (b : Bool) → IsKeyless (iter_plan {K = K} {V = V} {E = E} b parts)
+    by true = inr Ends
+    by false = inr (walk_is_walk 0 parts)
+keyless_plan E parts rules _ e = absurd (none_some (sym e))
 
 module _ {K V E : Type 0} (P R : K → V → Type 0) where
   -- a call that is told a value for its key
@@ -688,10 +726,6 @@ module _ {K V E : Type 0} (P R : K → V → Type 0) where
   -- ---- of a state
 
   module _ (Q : ℕ → K → Type 0) (eq : K → K → Bool) where
-    -- the plan is that of a call without a key
-    abbrev IsKeyless : List (Item K V E) → Type 0
-    IsKeyless rest = rest ≡ plan.Invalidate_all ∷ plan.Reply answer.Done ∷ []
-
     -- the call of this number is fair for its key, if it has one
     abbrev CallIsFair : Option (Told V E) → ℕ → List (Item K V E) → Type 0
     CallIsFair told n rest = ((q : K) × Q n q × PlanFair P R q told rest) ⊎ IsKeyless rest
@@ -708,14 +742,14 @@ module _ {K V E : Type 0} (P R : K → V → Type 0) where
         ((q : K) × Q n q × ValueFair R q (handed (reply_of turn))) ⊎
         (handed (reply_of turn) ≡ None)
 
-    -- the call is gone, has handed nothing out, and nothing has changed that is fair
+    -- the call, if it isn't gone, has still no key, has handed nothing out, and nothing has changed that is fair
     record Gone (s : State K V E) (w : World K V E) (next : Next K V E) : Type 0 where
-      table : w.table ≡ s.world.table
+      table : w.table.stored ≡ s.world.table.stored
       owners : w.desk.owners ≡ s.world.desk.owners
       joined : w.desk.joined ≡ s.world.desk.joined
       settled : w.desk.settled ≡ s.world.desk.settled
       told : w.desk.told ≡ s.world.desk.told
-      left : next.left ≡ None
+      left : (c : Call K V E) → next.left ≡ Some c → IsKeyless c.plan
       says : handed (reply_of next.turn) ≡ None
 
     module _ (ties : Ties P R Q eq) where
@@ -743,30 +777,77 @@ module _ {K V E : Type 0} (P R : K → V → Type 0) where
             inl (own.0, own.1, l.fair.1),
           ))
 
-      -- a call without a key hands nothing out, and is gone
-      keyless_fair : (s t : State K V E) (n : ℕ) (turn : Turn K V E) → IsFair s →
-          (step : Step eq s n turn t) → IsKeyless step.call.plan → IsFair t × TurnIsFair n turn
-      keyless_fair s t n turn i step keyless =
-          step_cases eq (Gone s) (λ v r. IsFair v × TurnIsFair n r) s t n turn step
-          (subst (λ p. OnStep eq (Gone s) s.world n step.call p) (sym keyless)
-          (outcomes eq (Gone s) s.world n step.call plan.Invalidate_all
+      walk_says : (c : Call K V E) (rest : List (Item K V E)) → IsWalk rest → handed (reply_of (goes c rest).turn) ≡ None
+      walk_says c rest Ends = refl
+      walk_says c rest (Lists part more walk) = refl
+      walk_says c rest (Finds key more walk) = refl
+      walk_says c rest (Scans there stored more walk) = refl
+
+      walk_left : (c d : Call K V E) (rest : List (Item K V E)) → IsWalk rest → (goes c rest).left ≡ Some d → IsWalk d.plan
+      walk_left c d rest Ends e = absurd (none_some e)
+      walk_left c d rest (Lists part more walk) e = subst (λ (v : Call K V E). IsWalk v.plan) (some_same e) (Lists part more walk)
+      walk_left c d rest (Finds key more walk) e = subst (λ (v : Call K V E). IsWalk v.plan) (some_same e) (Finds key more walk)
+      walk_left c d rest (Scans there stored more walk) e =
+          subst (λ (v : Call K V E). IsWalk v.plan) (some_same e) (Scans there stored more walk)
+
+      -- so of each step of a walk
+      walks_left : (c d : Call K V E) → IsWalk c.plan → (next : Next K V E) → Walks c next → next.left ≡ Some d → IsWalk d.plan
+      walks_left c d was next (Walks_on rest walk) e = walk_left c d rest walk e
+      walks_left c d was next Walks_still e = subst (λ (v : Call K V E). IsWalk v.plan) (some_same e) was
+      walks_left c d was next (Walks_giving key value rest walk) e = subst (λ (v : Call K V E). IsWalk v.plan) (some_same e) walk
+
+      walks_say : (c : Call K V E) (next : Next K V E) → Walks c next → handed (reply_of next.turn) ≡ None
+      walks_say c next (Walks_on rest walk) = walk_says c rest walk
+      walks_say c next Walks_still = refl
+      walks_say c next (Walks_giving key value rest walk) = refl
+
+      keyless_cases : (s : State K V E) (n : ℕ) (c : Call K V E) → IsKeyless c.plan → OnStep eq (Gone s) s.world n c c.plan
+      keyless_cases s n c (inl hiding) =
+          subst (λ p. OnStep eq (Gone s) s.world n c p) (sym hiding)
+          (outcomes eq (Gone s) s.world n c plan.Invalidate_all
           (plan.Reply answer.Done ∷ []) (record {
             table = refl;
             owners = refl;
             joined = refl;
             settled = refl;
             told = refl;
-            left = refl;
+            left = λ d e. absurd (none_some e);
             says = refl;
-          })))
+          }))
+      keyless_cases s n c (inr walk) = on_walk eq (Gone s) s.world n c c.plan walk
+          (λ listings stay next on. record {
+            table = refl;
+            owners = refl;
+            joined = refl;
+            settled = refl;
+            told = refl;
+            left = λ d e. inr (walks_left c d walk next on e);
+            says = walks_say c next on;
+          })
+          (record {
+            table = refl;
+            owners = refl;
+            joined = refl;
+            settled = refl;
+            told = refl;
+            left = λ d e. absurd (none_some e);
+            says = refl;
+          })
+
+      -- a call without a key hands nothing out, and has no key after its step
+      keyless_fair : (s t : State K V E) (n : ℕ) (turn : Turn K V E) → IsFair s →
+          (step : Step eq s n turn t) → IsKeyless step.call.plan → IsFair t × TurnIsFair n turn
+      keyless_fair s t n turn i step keyless =
+          step_cases eq (Gone s) (λ v r. IsFair v × TurnIsFair n r) s t n turn step
+          (keyless_cases s n step.call keyless)
           (λ w next g. (
             record {
-              table = subst (λ f. TableFair P eq f) (sym (ap (λ v. v.stored) g.table)) i.table;
+              table = subst (λ f. TableFair P eq f) (sym g.table) i.table;
               desk = rw (g.owners, g.joined, g.settled) i.desk;
               plans = λ m c live.
                   put_cases s.calls n next.left m (Some c) (CallIsFair (w.desk.told m) m c.plan)
                   live
-                  (λ here is. absurd (none_some (sym g.left ∙ is)))
+                  (λ here is. inr (g.left c is))
                   (λ there is. subst (λ f. CallIsFair (f m) m c.plan) (sym g.told)
                   (i.plans m c is));
             },
@@ -789,23 +870,23 @@ module _ {K V E : Type 0} (P R : K → V → Type 0) where
         table = i.table;
         desk = i.desk;
         plans = λ m c live.
-            put_cases s.calls (s.world.desk.last + 1) (Some (fresh_call s.world.desk.rules start)) m
+            put_cases s.calls (s.world.desk.last + 1) (Some (fresh_call s.world.table.division.parts s.world.desk.rules start)) m
             (Some c) (CallIsFair (s.world.desk.told m) m c.plan) live
             (λ here is. subst (CallIsFair (s.world.desk.told m) m) (ap plan_left is)
-            (subst (λ v. CallIsFair (s.world.desk.told m) v (plan_of s.world.desk.rules start)) here
+            (subst (λ v. CallIsFair (s.world.desk.told m) v (plan_of s.world.table.division.parts s.world.desk.rules start)) here
             (by (s.world.desk.told m) (key_started start) refl)))
             (λ there is. i.plans m c is);
       }
         where
           by : (told : Option (Told V E)) (o : Option K) → key_started start ≡ o →
-              CallIsFair told (s.world.desk.last + 1) (plan_of s.world.desk.rules start)
-          by told None e = inr (keyless_plan E s.world.desk.rules start e)
+              CallIsFair told (s.world.desk.last + 1) (plan_of s.world.table.division.parts s.world.desk.rules start)
+          by told None e = inr (keyless_plan E s.world.table.division.parts s.world.desk.rules start e)
           by told (Some key) e = inl (
             key,
             has key e,
             rest_fair P R key told _
-                (subst (λ o. RestFair P R (unwrap_or o key) (plan_of {E = E} s.world.desk.rules start)) e
-                (fresh_fair E P R ties.own s.world.desk.rules start gave key)),
+                (subst (λ o. RestFair P R (unwrap_or o key) (plan_of {E = E} s.world.table.division.parts s.world.desk.rules start)) e
+                (fresh_fair E P R ties.own s.world.table.division.parts s.world.desk.rules start gave key)),
           )
 
       drop_fair : (s : State K V E) (n : ℕ) (c : Call K V E) → IsFair s → IsFair (dropped s n c)
@@ -873,15 +954,15 @@ module _ {K V E : Type 0} (P R : K → V → Type 0) where
       }
 
       -- what a run leaves of a fresh cache is fair, if it gives and starts only what is P and Q
-      run_fair : (rules : Rules) (size : ℕ) (tests : ℕ → K → V → Bool) (s : State K V E)
+      run_fair : (division : Division K) (rules : Rules) (size : ℕ) (tests : ℕ → K → V → Bool) (s : State K V E)
           (es : List (Event K V E)) (rs : List (Reply K V E))
-          (run : Run eq Any (fresh K V E rules size tests) es rs s) →
+          (run : Run eq Any (fresh K V E division rules size tests) es rs s) →
           ((key : K) (value : V) →
-          WasGiven eq (fresh K V E rules size tests) es rs s run key value → P key value) →
+          WasGiven eq (fresh K V E division rules size tests) es rs s run key value → P key value) →
           ((n : ℕ) (start : Start K V) (key : K) → HasStarted n es rs start →
           key_started start ≡ Some key → Q n key) → IsFair s
-      run_fair rules size tests s es rs run gave begun =
-          along P Q eq IsFair fair_kept (fresh K V E rules size tests) s es rs run gave begun
+      run_fair division rules size tests s es rs run gave begun =
+          along P Q eq IsFair fair_kept (fresh K V E division rules size tests) s es rs run gave begun
           (record {
             table = λ q p e. absurd (none_some e);
             desk = record {
@@ -893,24 +974,24 @@ module _ {K V E : Type 0} (P R : K → V → Type 0) where
           })
 
 pub stored_given : {K V E : Type 0} (eq : K → K → Bool) → StoredIsGiven K V E eq
-stored_given {K} {V} {E} eq rules size tests s es rs run q p is =
+stored_given {K} {V} {E} eq division rules size tests s es rs run q p is =
     let given : K → V → Type 0 =
-    WasGiven eq (fresh K V E rules size tests) es rs s run in
+    WasGiven eq (fresh K V E division rules size tests) es rs s run in
     let ties : Ties given (λ _ _. Unit {0}) (λ _ _. Unit {0}) eq = record {
       own = λ k value h. tt;
       near = λ k r value h e. tt;
       read = λ n o r r1 a b value h1 h2 h3 e h4 h5. tt;
     } in
     let fair : IsFair given (λ _ _. Unit {0}) (λ _ _. Unit {0}) eq s =
-    run_fair given (λ _ _. Unit {0}) (λ _ _. Unit {0}) eq ties rules size tests s es rs run
+    run_fair given (λ _ _. Unit {0}) (λ _ _. Unit {0}) eq ties division rules size tests s es rs run
     (λ key value h. h) (λ n start key h is. tt) in
     (fair.table q p is).0
 
-module _ {K V E : Type 0} (eq : K → K → Bool) (laws : IsEquivalence eq) (rules : Rules) (size : ℕ)
+module _ {K V E : Type 0} (eq : K → K → Bool) (laws : IsEquivalence eq) (division : Division K) (rules : Rules) (size : ℕ)
     (tests : ℕ → K → V → Bool) (s : State K V E) (es : List (Event K V E)) (rs : List (Reply K V E))
-    (run : Run eq Any (fresh K V E rules size tests) es rs s) where
+    (run : Run eq Any (fresh K V E division rules size tests) es rs s) where
   abbrev Given : K → V → Type 0
-  Given = WasGiven eq (fresh K V E rules size tests) es rs s run
+  Given = WasGiven eq (fresh K V E division rules size tests) es rs s run
 
   -- it was given for an equal key
   abbrev Near : K → V → Type 0
@@ -927,7 +1008,7 @@ module _ {K V E : Type 0} (eq : K → K → Bool) (laws : IsEquivalence eq) (rul
 
   one_key : (n : ℕ) (a b : K) → StartedFor n a → StartedFor n b → a ≡ b
   one_key n a b x y = some_same (sym x.2 ∙
-      ap key_started (started_once eq (fresh K V E rules size tests) s es rs n x.0 y.0 run x.1 y.1) ∙ y.2)
+      ap key_started (started_once eq (fresh K V E division rules size tests) s es rs n x.0 y.0 run x.1 y.1) ∙ y.2)
 
   given_ties : Ties Given Near StartedFor eq
   given_ties = record {
@@ -942,7 +1023,7 @@ module _ {K V E : Type 0} (eq : K → K → Bool) (laws : IsEquivalence eq) (rul
   }
 
   given_fair : IsFair Given Near StartedFor eq s
-  given_fair = run_fair Given Near StartedFor eq given_ties rules size tests s es rs run
+  given_fair = run_fair Given Near StartedFor eq given_ties division rules size tests s es rs run
       (λ key v h. h) (λ n start key b is. (start, b, is))
 
   -- what a call may hand out was given for a key equal to its own
@@ -956,7 +1037,7 @@ module _ {K V E : Type 0} (eq : K → K → Bool) (laws : IsEquivalence eq) (rul
       key : (start : Start K V) → HasStarted n es rs start → (q : K) → StartedFor n q →
           Some q ≡ key_started start
       key start began q for = sym for.2 ∙ ap key_started
-          (started_once eq (fresh K V E rules size tests) s es rs n for.0 start run for.1 began)
+          (started_once eq (fresh K V E division rules size tests) s es rs n for.0 start run for.1 began)
   given_near n turn start value began (inr none) is = absurd (none_some (sym none ∙ is))
 
   -- as it is stepped or polled
@@ -990,11 +1071,11 @@ module _ {K V E : Type 0} (eq : K → K → Bool) (laws : IsEquivalence eq) (rul
 
 module _ {K V E : Type 0} (eq : K → K → Bool) (laws : IsEquivalence eq) where
   pub handed_given : HandedIsGiven K V E eq
-  handed_given rules size tests s t es rs run n e r start value began is h v =
-      on_event eq laws rules size tests s es rs run t n e r start value began is h v
+  handed_given division rules size tests s t es rs run n e r start value began is h v =
+      on_event eq laws division rules size tests s es rs run t n e r start value began is h v
 
   pub stepped_given : SteppedIsGiven K V E eq
-  stepped_given rules size tests s t es rs run n turn start value began step v =
-      given_near eq laws rules size tests s es rs run n turn start value began
-      (step_fair _ _ _ eq (given_ties eq laws rules size tests s es rs run) s t n turn
-      (given_fair eq laws rules size tests s es rs run) step).1 v
+  stepped_given division rules size tests s t es rs run n turn start value began step v =
+      given_near eq laws division rules size tests s es rs run n turn start value began
+      (step_fair _ _ _ eq (given_ties eq laws division rules size tests s es rs run) s t n turn
+      (given_fair eq laws division rules size tests s es rs run) step).1 v

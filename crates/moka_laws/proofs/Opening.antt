@@ -1,5 +1,5 @@
 -- By which step a call comes to ask, and to end its own load without a value.
-use Rattle.std.proofs.Common.{◌≡◌, ℕ, ◌+◌, ◌==◌, Bool, true, false, List, [], ◌∷◌, Option, Some, None, inl, inr, refl, sym, ap, ◌∙◌, subst, arith}
+use Rattle.std.proofs.Common.{◌≡◌, ℕ, ◌+◌, ◌==◌, Bool, true, false, List, [], ◌∷◌, Option, Some, None, inl, inr, refl, sym, ap, ◌∙◌, subst, arith, map, ◌++◌}
 use Rattle.std.proofs.lemmas.Bool.{eqb-true}
 use Rattle.std.specs.Cmp.{IsEquivalence}
 use Rattle.moka_hist.specs.State.{State, World, Call, fresh}
@@ -36,12 +36,13 @@ use Rattle.moka_laws.proofs.Owning.{plan_left, in_owned, wanted}
 use Rattle.moka_laws.proofs.Steady.{step_calls}
 use Rattle.moka_laws.proofs.Reached.{fresh_reached, run_reached}
 use Rattle.moka_laws.proofs.Roles.{IsLast}
-use Rattle.moka_laws.proofs.Rules.{put_plans, loaded_plans, kept_next, chosen_next, IsFresh, Disabled, fresh_plan, read_key_next, told_op_next_by, IsComputed, unchanged_computed, put_computed}
+use Rattle.moka_laws.proofs.Rules.{put_plans, loaded_plans, kept_next, chosen_next, IsFresh, Disabled, fresh_plan, read_key_next, told_op_next_by, IsComputed, unchanged_computed, put_computed, Walks_over}
 use Rattle.moka_laws.proofs.Served.{in_served}
 use Rattle.moka_laws.proofs.StepCases.{OnStep, step_cases}
 use Rattle.moka_laws.proofs.Outcomes.{Outcomes, outcomes, passes_on}
 use Rattle.moka_hist.specs.declared.loads.Compute.{Compute}
 use Rattle.moka_hist.specs.Computing.{after_told_op, after_read_key}
+use Rattle.moka_laws.proofs.Walks.{Ends, Finds, IsWalk, Lists, Scans, walk_is_walk}
 
 module _ {K V E : Type 0} where
   -- 1 where a load is ended so without a value, and that answered
@@ -134,8 +135,19 @@ module _ {K V E : Type 0} where
   goes_not c (plan.Reply a ∷ []) e = cc
   goes_not c _ e = cc
 
+  finds_late : (keys : List K) (rest : List (Item K V E)) → lates (map plan.Find keys ++ rest) ≡ lates rest
+  finds_late [] rest = refl
+  finds_late (key ∷ keys) rest = finds_late keys rest
+
+  walk_late : (p : List (Item K V E)) → IsWalk p → lates p ≡ 0
+  walk_late p Ends = refl
+  walk_late p (Lists part rest walk) = walk_late rest walk
+  walk_late p (Finds key rest walk) = walk_late rest walk
+  walk_late p (Scans there stored rest walk) = walk_late rest walk
+
   fresh_quiet : (rules : Rules) (p : List (Item K V E)) → IsFresh rules p → lates p ≡ 0
   fresh_quiet rules p (Disabled a d plain) = refl
+  fresh_quiet rules p (Walks_over parts able) = walk_late p (walk_is_walk 0 parts)
   fresh_quiet rules p _ = refl
 
   module _ (s : State K V E) (n : ℕ) (c : Call K V E) where
@@ -388,6 +400,17 @@ module _ {K V E : Type 0} where
       (λ k old off some. quiet s n c _ (removed_late c removal old.value) (λ g. cc)),
       λ k old on some. quiet s n c _ (removed_late c removal old.value) (λ g. cc),
     )
+    on_item (plan.List_keys part) rest e l h o = (
+      (λ more. parks s n c _ refl (ap lates e ∙ h) (λ g. cc)),
+      λ listed keys is gives. goes_on s n c (map plan.Find keys ++ rest) (finds_late keys rest ∙ h),
+    )
+    on_item (plan.Find key) rest e l h o = (
+      (λ more. parks s n c _ refl (ap lates e ∙ h) (λ g. cc)),
+      (λ none. goes_on s n c rest h),
+      λ k stored some. quiet s n c _ h (λ g. cc),
+    )
+    on_item (plan.Scan there stored) rest e l h o =
+        ((λ seen. quiet s n c _ h (λ g. cc)), λ unseen. goes_on s n c rest h)
     on_item (plan.Reply a) rest e l h o = quiet s n c _ refl (λ g. cc)
     on_item (plan.Settle with) rest e l h o = goes_on s n c rest h
     on_item item rest e l h o = passes_on eq After s.world n c item rest tt
@@ -513,10 +536,10 @@ module _ {K V E : Type 0} (eq : K → K → Bool) where
       by m c live false e = led_on s t m c led (i.led m c (sym (step_calls eq s t n m reply e step) ∙ live))
 
   -- a fresh call neither asks nor ends a load
-  led_fresh : (s : State K V E) (n : ℕ) (rules : Rules) (start : Start K V) → IsLed s n (fresh_call rules start)
-  led_fresh s n rules start =
-      let c : Call K V E = fresh_call rules start in
-      let h : lates c.plan ≡ 0 = fresh_quiet rules c.plan (fresh_plan rules start) in
+  led_fresh : (s : State K V E) (n parts : ℕ) (rules : Rules) (start : Start K V) → IsLed s n (fresh_call parts rules start)
+  led_fresh s n parts rules start =
+      let c : Call K V E = fresh_call parts rules start in
+      let h : lates c.plan ≡ 0 = fresh_quiet rules c.plan (fresh_plan parts rules start) in
       record {
         later = behind_none c.plan h;
         looks = looks_none c.plan h;
@@ -530,10 +553,10 @@ module _ {K V E : Type 0} (eq : K → K → Bool) where
     start = λ s start fits led i. record {
       reached = run_reached eq s _ led.events led.replies i.reached led.run;
       led = λ n c live.
-          put_cases s.calls (s.world.desk.last + 1) (Some (fresh_call s.world.desk.rules start)) n (Some c)
+          put_cases s.calls (s.world.desk.last + 1) (Some (fresh_call s.world.table.division.parts s.world.desk.rules start)) n (Some c)
           (IsLed (started s start) n c) live
           (λ here is. subst (IsLed (started s start) n) (some_same is)
-          (led_fresh (started s start) n s.world.desk.rules start))
+          (led_fresh (started s start) n s.world.table.division.parts s.world.desk.rules start))
           (λ there is. led_on s (started s start) n c led (i.led n c is));
     };
     step = led_step;
@@ -546,8 +569,8 @@ module _ {K V E : Type 0} (eq : K → K → Bool) where
 
   in_led : (s : State K V E) → IsReached eq s → AreLed s
   in_led s h =
-      follow eq AreLed led_followed (fresh K V E h.rules h.size h.tests) s h.events h.replies (record {
-        reached = fresh_reached eq h.rules h.size h.tests h.has_log;
+      follow eq AreLed led_followed (fresh K V E h.division h.rules h.size h.tests) s h.events h.replies (record {
+        reached = fresh_reached eq h.division h.divides h.rules h.size h.tests h.has_log;
         led = λ n c live. absurd (none_some live);
       }) h.run
 

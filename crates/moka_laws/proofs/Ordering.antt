@@ -28,14 +28,15 @@ use Rattle.moka_laws.proofs.Before.{Before, before_is, is_before, before_more, b
 use Rattle.moka_laws.proofs.Counting.{none_some, some_same, put_cases, put_here, put_there, differ, differ_not}
 use Rattle.moka_laws.proofs.Owning.{plan_left}
 use Rattle.moka_laws.proofs.Locking.{Locks}
-use Rattle.moka_laws.proofs.Plans.{IsTail, Answering, Settling, IsDrained, Looking, Putting, IsPosted, Draining, Ended, Locking, IsPlan, Posted, Drained, Posting, Hearing, Noticing, Listening, Unlocking, Turning, Applying, Ending, Judging, Owning, Giving, Reading, Asking, Telling, Writing, Removing, Locking_out, Choosing, Finding, Chosen, Taking, Freeing, Hiding, Idling, Asking_op, Owning_key, Owning_alone, Reading_key, Telling_op}
+use Rattle.moka_laws.proofs.Plans.{IsTail, Answering, Settling, IsDrained, Looking, Putting, IsPosted, Draining, Ended, Locking, IsPlan, Posted, Drained, Posting, Hearing, Noticing, Listening, Unlocking, Turning, Applying, Ending, Judging, Owning, Giving, Reading, Asking, Telling, Writing, Removing, Locking_out, Choosing, Finding, Chosen, Taking, Freeing, Hiding, Idling, Asking_op, Owning_key, Owning_alone, Reading_key, Telling_op, Walking}
 use Rattle.moka_laws.proofs.Replacing.{opens_notice, listening, not_opened, opened_committed, told_once}
 use Rattle.moka_laws.proofs.Rules.{fresh_plan}
-use Rattle.moka_laws.proofs.Noticing.{IsNoticing, noticing_kept, naming, running, drained_none, posted_none, misses_none, finds_none, keeps_none, hits_none, read_none, told_none, form_none, read_key_none, told_op_none, tail_none}
+use Rattle.moka_laws.proofs.Noticing.{IsNoticing, noticing_kept, naming, running, drained_none, posted_none, misses_none, finds_none, keeps_none, hits_none, read_none, told_none, form_none, read_key_none, told_op_none, tail_none, walk_none, walks_none}
 use Rattle.moka_laws.proofs.SoundReached.{IsSound, sound_kept, reached_sound}
 use Rattle.moka_laws.proofs.Kept.{IsInvariant, in_reached}
 use Rattle.moka_laws.proofs.StepCases.{OnStep, step_cases}
 use Rattle.moka_laws.proofs.Outcomes.{outcomes}
+use Rattle.moka_laws.proofs.Walks.{Ends, Finds, IsWalk, Lists, Scans, on_walk}
 
 module _ {K V E : Type 0} where
   -- the plan hears its notice next
@@ -171,6 +172,13 @@ module _ {K V E : Type 0} where
       }),
     )
     on_posted p e (Ended rest t) = on_tail rest e t
+
+    -- a walk hears no notice
+    walk_hears : (p : List (Item K V E)) → IsWalk p → IsHearing p → ⊥
+    walk_hears p Ends h = h
+    walk_hears p (Lists part rest walk) h = h
+    walk_hears p (Finds key rest walk) h = h
+    walk_hears p (Scans there stored rest walk) h = h
 
     on_plan : (p : List (Item K V E)) → c.plan ≡ p → IsPlan p → OnStep eq (Made p) w n c p
     on_plan p e (Posted rest d) = on_posted rest e d
@@ -322,6 +330,9 @@ module _ {K V E : Type 0} where
         (locks p _ None e (λ h. h) (tail_none n c rest t))
     on_plan p e Hiding = outcomes eq (Made p) w n c plan.Invalidate_all (plan.Reply said_as.Done ∷ [])
         (quiet p _ e (λ h. h) refl)
+    on_plan p e (Walking rest walk) = on_walk eq (Made p) w n c rest walk
+        (λ listings stay next on. quiet p _ e (walk_hears p walk) (walks_none n c (ap (naming n) e ∙ walk_none n p walk) next on))
+        (quiet p _ e (walk_hears p walk) refl)
     on_plan p e (Idling rest t) = outcomes eq (Made p) w n c plan.Idle rest
         (quiet p _ e (λ h. h) (tail_none n c rest t))
 
@@ -542,14 +553,14 @@ module _ {K V E : Type 0} (eq : K → K → Bool) (laws : IsEquivalence eq) wher
   ordered_start : (s : State K V E) (start : Start K V) → IsOrdered eq s → IsOrdered eq (started s start)
   ordered_start s start i =
       let new : ℕ = s.world.desk.last + 1 in
-      let d : Call K V E = fresh_call s.world.desk.rules start in
+      let d : Call K V E = fresh_call s.world.table.division.parts s.world.desk.rules start in
       record {
         noticing = (noticing_kept eq).start s start i.noticing;
         sound = (sound_kept eq laws).start s start i.sound;
         order = i.order;
         due = λ p q b x key old cause upsert rest lives is e same. put_cases s.calls new (Some d) q
             (Some b) (Before s.world.table.committed p q) lives
-            (λ here there. absurd (unopened q (plan_of s.world.desk.rules start) (form_none q s.world.desk.rules _ (fresh_plan s.world.desk.rules start))
+            (λ here there. absurd (unopened q (plan_of s.world.table.division.parts s.world.desk.rules start) (form_none q s.world.desk.rules _ (fresh_plan s.world.table.division.parts s.world.desk.rules start))
             (subst (λ v. OpensNotice (plan_left v)) (sym there) (subst OpensNotice (sym is) tt))))
             (λ other there. i.due p q b x key old cause upsert rest there is e same);
         hears = λ p b x lives e r. put_cases s.calls new (Some d) p (Some b) (IsHearing b.plan × (s.world.desk.locked p ≡ Some x.key)) lives
@@ -600,9 +611,9 @@ module _ {K V E : Type 0} (eq : K → K → Bool) (laws : IsEquivalence eq) wher
 
   ordered_kept : IsInvariant {K = K} {V = V} {E = E} eq (IsOrdered eq)
   ordered_kept = record {
-    fresh = λ rules size tests has_log. record {
-      noticing = (noticing_kept eq).fresh rules size tests has_log;
-      sound = (sound_kept eq laws).fresh rules size tests has_log;
+    fresh = λ division divides rules size tests has_log. record {
+      noticing = (noticing_kept eq).fresh division divides rules size tests has_log;
+      sound = (sound_kept eq laws).fresh division divides rules size tests has_log;
       order = λ a b x y h e f same. absurd h;
       due = λ a b c x key old cause upsert rest live is e same. absurd (none_some live);
       hears = λ a c x live e r. absurd (none_some live);

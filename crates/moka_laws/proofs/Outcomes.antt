@@ -1,23 +1,24 @@
 -- What a step may make, item by item.
 use Rattle.std.specs.Option.{option_map}
-use Rattle.std.proofs.Common.{append-nil, ◌<◌, ◌≡◌, ℕ, suc, Bool, true, false, cond, nat_lt, not, ◌==◌, List, [], ◌∷◌, ◌++◌, length, drop, take, Option, Some, None, is_some, unwrap_or, refl, sym, ap, ◌∙◌, subst, arith}
+use Rattle.std.proofs.Common.{append-nil, ◌<◌, ◌≡◌, ℕ, suc, Bool, true, false, cond, nat_lt, not, ◌==◌, List, [], ◌∷◌, ◌++◌, map, length, drop, take, Option, Some, None, is_some, unwrap_or, refl, sym, ap, ◌∙◌, subst, arith}
 use Rattle.std.proofs.lemmas.Bool.{eqb-true}
 use Rattle.std.proofs.lemmas.Bool.Decides.{nat_tests}
 use Rattle.moka_hist.specs.Finite.{put_at}
-use Rattle.moka_hist.specs.State.{Call, World, DeskPart}
+use Rattle.moka_hist.specs.State.{Call, Listed, TablePart, World, DeskPart}
 use Rattle.moka_hist.specs.Plan.{Item, Aim, Change, Removal, look, is_disabled}
 use Rattle.moka_hist.specs.Plan as plan
 use Rattle.moka_hist.specs.Causes.{chosen_holds}
 use Rattle.moka_hist.specs.Visits.{is_seen, cause_of, gave_back, decided, is_running, is_unlocked_for, locked_by, times_at, unlocked, with_notice, without_moment, first_of, holding_with, claimed, claimed_alone, claim_of, finds, has_room, is_free_for, settlement_for, readers_without, settled_without, stamped, judged, settled_as, opened, took_told, ended_turn, invalidated_all}
-use Rattle.moka_hist.specs.Tables.{answer_of, by_pair, removed, taken_by, written}
+use Rattle.moka_hist.specs.Tables.{GivesKeys, answer_of, begun, by_pair, removed, taken_by, written}
 use Rattle.moka_hist.specs.Bound.{times_of, stayed, decided_by, most_undecided}
-use Rattle.moka_hist.specs.Next.{Next, goes, stays, waits, asks, answers}
+use Rattle.moka_hist.specs.Next.{Next, goes, stays, waits, gives, asks, answers}
 use Rattle.moka_hist.specs.Listening.{after_hearing, after_lock, after_notice}
 use Rattle.moka_hist.specs.Posting.{once_ended, after_drain, after_post, after_turn, after_apply}
 use Rattle.moka_hist.specs.Looking.{misses, hits, keeps, finds_pair, after_get, after_judge, after_holds}
 use Rattle.moka_hist.specs.Loading.{owner_rest, after_own, after_read, after_told}
 use Rattle.moka_hist.specs.Writing.{cause_handed, nothing_answer, nothing_rest, old_stamp, once_told, removed_answer, removed_rest, said, stamp_asked, after_out}
 use Rattle.moka_hist.specs.Entries.{unchanged}
+use Rattle.moka_hist.specs.Walking.{after_find, after_scan}
 use Rattle.moka_hist.specs.Computing.{compute_rest, report_rest, after_own_key, after_own_alone, after_read_key, after_told_op}
 use Rattle.moka_hist.specs.Step.{access_for, replace_of, takes_of}
 use Rattle.moka_hist.specs.declared.records.Stored.{Stored}
@@ -39,6 +40,7 @@ use Rattle.moka_hist.specs.declared.visits.Settled.{Settled}
 use Rattle.moka_hist.specs.declared.visits.Settled.TheVariants as settled
 use Rattle.moka_hist.specs.declared.visits.Visit.TheVariants as visit
 use Rattle.moka_hist.specs.declared.visits.Found.TheVariants as found
+use Rattle.moka_hist.specs.declared.tables.TableOp.TheVariants as table_op
 use Rattle.moka_hist.specs.declared.tables.TableTurn.TheVariants as table
 use Rattle.moka_laws.proofs.StepCases.{OnAccess}
 
@@ -275,6 +277,20 @@ module _ {K V E : Type 0} (eq : K → K → Bool) where
       plan.Post (Remove n old.stamp) ∷ said removal (removed_answer removal old.value))))
   Outcomes M w n c plan.Idle rest = M (on_desk w (gave_back w.desk n)) (goes c rest)
   Outcomes M w n c plan.Invalidate_all rest = M (on_desk w (invalidated_all w.desk)) (goes c rest)
+  Outcomes M w n c (plan.List_keys part) rest =
+      let t : TablePart K V = begun w.table n (table_op.Keys part) in
+      (times_of w.stay n < most_undecided w.table → M (record w { table = t; stay = stayed w.stay n }) (stays c)) ×
+      ((listed : Listed K) (keys : List K) → t.listings n ≡ Some listed → GivesKeys eq t listed keys →
+      M (record w { table = record t { listings = put_at t.listings n None }; stay = decided_by n })
+      (goes c (map plan.Find keys ++ rest)))
+  Outcomes M w n c (plan.Find key) rest =
+      Undecided M w n c ×
+      (w.table.stored key ≡ None → M (done w n) (goes c rest)) ×
+      ((k : K) (stored : Stored V) → w.table.stored key ≡ Some (k, stored) →
+      M (done w n) (goes c (plan.Scan k stored ∷ rest)))
+  Outcomes M w n c (plan.Scan there stored) rest =
+      (is_seen w.desk None there stored ≡ true → M w (gives c there stored.value rest)) ×
+      (is_seen w.desk None there stored ≡ false → M w (goes c rest))
   Outcomes M w n c (plan.Reply answer) rest = M (on_desk w (gave_back w.desk n)) (answers answer)
 
   -- the desk once the call has tried to post its write
@@ -356,6 +372,18 @@ module _ {K V E : Type 0} (eq : K → K → Bool) where
         M (done w n) (after_get c aim (table.Decided (answer_of pair)))
     got aim key rest None e o = o.1 e
     got aim key rest (Some pair) e o = o.2 pair.0 pair.1 e
+
+    looked_up : (key : K) (rest : List (Item K V E)) (pair : Option (K × Stored V)) →
+        w.table.stored key ≡ pair → Outcomes M w n c (plan.Find key) rest →
+        M (done w n) (after_find c rest (table.Decided (answer_of pair)))
+    looked_up key rest None e o = o.1 e
+    looked_up key rest (Some pair) e o = o.2 pair.0 pair.1 e
+
+    scanned : (there : K) (stored : Stored V) (rest : List (Item K V E)) (b : Bool) →
+        is_seen w.desk None there stored ≡ b → Outcomes M w n c (plan.Scan there stored) rest →
+        M w (after_scan c there stored rest (found.Scan b))
+    scanned there stored rest true e o = o.0 e
+    scanned there stored rest false e o = o.1 e
 
     judged_so : (key : K) (stamp : ℕ) (cause : Cause) (there : K) (stored : Stored V)
         (rest : List (Item K V E))
@@ -508,6 +536,11 @@ module _ {K V E : Type 0} (eq : K → K → Bool) where
   )
   outcomes M w n c plan.Idle rest o = o
   outcomes M w n c plan.Invalidate_all rest o = o
+  outcomes M w n c (plan.List_keys part) rest o = (o.0, λ answer t h. rw (h.5, h.4) (o.1 h.0 h.1 h.2 h.3))
+  outcomes M w n c (plan.Find key) rest o =
+      (o.0, λ answer t h. rw (h.1, h.0) (looked_up M w n c key rest (w.table.stored key) refl o))
+  outcomes M w n c (plan.Scan there stored) rest o =
+      scanned M w n c there stored rest (is_seen w.desk None there stored) refl o
   outcomes M w n c (plan.Reply answer) rest o = o
 
   module _ (M : World K V E → Next K V E → Type 0) (w : World K V E) (n : ℕ) (c : Call K V E) where

@@ -3,7 +3,7 @@ use Rattle.std.proofs.Common.{◌≡◌, ℕ, Bool, true, false, cond, Option, S
 use Rattle.moka_hist.specs.State.{State, TablePart, World}
 use Rattle.moka_hist.specs.Step.{Access, Gets, Step, access_of}
 use Rattle.moka_hist.specs.Step as step
-use Rattle.moka_hist.specs.Tables.{Operates, by_pair, removed, taken_by, written}
+use Rattle.moka_hist.specs.Tables.{Operates, by_pair, removed, taken_by, written, begun}
 use Rattle.moka_hist.specs.declared.records.Stored.{Stored}
 use Rattle.moka_hist.specs.declared.tables.TableAnswer.{TableAnswer}
 use Rattle.moka_hist.specs.declared.tables.TableOp.{TableOp}
@@ -43,6 +43,7 @@ module _ {K V : Type 0} (eq : K → K → Bool) where
       by None = λ q p is. put_under key q (key, stored) p (w.stored q) (eq key q) refl refl is
           (under q p)
       by (Some pair) = under
+  operation_keeps n w t (op.Keys part) answer o under = subst (λ (v : TablePart K V). IsUnder v.stored) (sym o.5) under
   operation_keeps n w t (op.RemoveIf key stamp) answer o under =
       subst (λ (v : TablePart K V). IsUnder v.stored) (sym o.1) (by (taken_by stamp (w.stored key)))
     where
@@ -59,7 +60,7 @@ module _ {K V E : Type 0} (eq : K → K → Bool) where
   access_keeps : (n : ℕ) (w new : World K V E) (a : Access K V E) (g : Got K V E) → Gets eq n w a g new → IsUnder eq w.table.stored → IsUnder eq new.table.stored
   access_keeps n w new (step.On_table o) (got.Table table.Going) gets under = subst (λ (v : World K V E). IsUnder eq v.table.stored) (sym gets.1) under
   access_keeps n w new (step.On_table o) (got.Table (table.Decided answer)) gets under =
-      subst (λ (v : World K V E). IsUnder eq v.table.stored) (sym gets.2) (operation_keeps eq n w.table gets.0 o answer gets.1 under)
+      subst (λ (v : World K V E). IsUnder eq v.table.stored) (sym gets.2) (operation_keeps eq n (begun w.table n o) gets.0 o answer gets.1 under)
   access_keeps n w new (step.On_desk made) (got.Desk found) gets under = subst (λ (v : World K V E). IsUnder eq v.table.stored) (sym gets.1) under
   access_keeps n w new (step.On_table o) (got.Desk found) gets under = absurd gets
   access_keeps n w new (step.On_desk made) (got.Table turn) gets under = absurd gets
@@ -71,7 +72,7 @@ module _ {K V E : Type 0} (eq : K → K → Bool) where
 
   kept : IsInvariant {K = K} {V = V} {E = E} eq (UnderOwnKeys {K = K} {V = V} {E = E} eq)
   kept = record {
-    fresh = λ rules size tests has_log q p is. cc;
+    fresh = λ division divides rules size tests has_log q p is. cc;
     at = λ s moment under. under;
     start = λ s start under. under;
     step = step_keeps;

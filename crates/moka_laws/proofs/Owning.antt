@@ -1,5 +1,5 @@
 -- A call that asks for a load owns it, and a load has one owner.
-use Rattle.std.proofs.Common.{◌≡◌, ℕ, ◌+◌, ◌==◌, Bool, true, false, cond, ◌&&◌, List, [], ◌∷◌, Option, Some, None, refl, sym, ap, ◌∙◌, subst, arith}
+use Rattle.std.proofs.Common.{◌≡◌, ℕ, ◌+◌, ◌==◌, Bool, true, false, cond, ◌&&◌, List, [], ◌∷◌, Option, Some, None, refl, sym, ap, ◌∙◌, subst, arith, map, ◌++◌}
 use Rattle.std.proofs.lemmas.Bool.{false≢true}
 use Rattle.std.specs.Option.{option_map_or}
 use Rattle.std.specs.Cmp.{IsEquivalence}
@@ -32,12 +32,13 @@ use Rattle.moka_hist.specs.declared.visits.Settled.{Settled}
 use Rattle.moka_hist.specs.declared.visits.Settled.TheVariants as settled
 use Rattle.moka_hist.specs.declared.visits.Found.TheVariants as found
 use Rattle.moka_hist.specs.declared.accesses.Turn.{Turn}
-use Rattle.moka_laws.proofs.Rules.{abort_next, put_plans, loaded_plans, kept_next, chosen_next, read_key_next, said_next, told_op_next, IsFresh, Disabled, fresh_plan}
+use Rattle.moka_laws.proofs.Rules.{abort_next, put_plans, loaded_plans, kept_next, chosen_next, read_key_next, said_next, told_op_next, IsFresh, Disabled, fresh_plan, Walks_over}
 use Rattle.moka_laws.proofs.Counting.{some_same, none_some, put_cases, other_number}
 use Rattle.moka_laws.proofs.Weights.{weigh}
 use Rattle.moka_laws.proofs.Kept.{IsInvariant, in_reached}
 use Rattle.moka_laws.proofs.StepCases.{OnStep, step_cases}
 use Rattle.moka_laws.proofs.Outcomes.{alone_of, computes_of, Outcomes, OwnsKey, outcomes}
+use Rattle.moka_laws.proofs.Walks.{weigh_finds, weigh_walk, walk_is_walk}
 
 -- a kind is equal to itself, and to no other
 kind_self : (a : Kind) → kind_eq a a ≡ true
@@ -258,11 +259,13 @@ module _ {K V E : Type 0} where
 
     fresh_weighs : (rules : Rules) (p : List (Item K V E)) → IsFresh rules p → weigh owning p ≡ 0
     fresh_weighs rules p (Disabled a d plain) = refl
+    fresh_weighs rules p (Walks_over parts able) =
+        weigh_walk owning (record { list = λ part. refl; find = λ key. refl; scan = λ there stored. refl; end = refl }) p (walk_is_walk 0 parts)
     fresh_weighs rules p _ = refl
 
-    fresh_owns : (rules : Rules) (start : Start K V) → Owns owners n (plan_of rules start)
-    fresh_owns rules start =
-        owns_none (plan_of rules start) (fresh_weighs rules (plan_of rules start) (fresh_plan rules start))
+    fresh_owns : (parts : ℕ) (rules : Rules) (start : Start K V) → Owns owners n (plan_of parts rules start)
+    fresh_owns parts rules start =
+        owns_none (plan_of parts rules start) (fresh_weighs rules (plan_of parts rules start) (fresh_plan parts rules start))
 
 module _ {K V E : Type 0} (eq : K → K → Bool) where
   -- each live call owns what it asks for, and equal loads have one owner
@@ -441,6 +444,18 @@ module _ {K V E : Type 0} (eq : K → K → Bool) where
           (λ q. plan.Notice key old (cause_handed removal) false ∷ plan.Unlock true ∷ plan.Post (Remove n old.stamp) ∷ q) removal
           (removed_answer removal old.value) (owns_none _ n _ refl) (owns_none _ n _ refl)),
     )
+    on_item (plan.List_keys part) rest p o = (
+      (λ more. keeps refl p),
+      λ listed keys e gives. keeps refl
+          (goes_none _ n c (map plan.Find keys ++ rest) (weigh_finds owning (λ key. refl) keys rest ∙ o.later)),
+    )
+    on_item (plan.Find key) rest p o = (
+      (λ more. keeps refl p),
+      (λ none. keeps refl (goes_none _ n c rest o.later)),
+      λ k stored some. keeps refl (owns_none _ n (plan.Scan k stored ∷ rest) (omega (arith, o.later))),
+    )
+    on_item (plan.Scan there stored) rest p o =
+        ((λ seen. keeps refl (owns_none _ n rest o.later)), λ unseen. keeps refl (goes_none _ n c rest o.later))
     on_item (plan.Reply answer) rest p o = keeps refl (owns_none _ n [] refl)
     on_item _ rest p o = keeps refl (goes_none _ n c rest o.later)
 
@@ -472,13 +487,13 @@ module _ {K V E : Type 0} (eq : K → K → Bool) (laws : IsEquivalence eq) wher
 
   owned_kept : IsInvariant eq (IsOwned {K = K} {V = V} {E = E} eq)
   owned_kept = record {
-    fresh = λ rules size tests has_log. record { one_owner = λ a b e. refl; calls = λ n c live. absurd (none_some live) };
+    fresh = λ division divides rules size tests has_log. record { one_owner = λ a b e. refl; calls = λ n c live. absurd (none_some live) };
     at = λ s moment i. record { one_owner = i.one_owner; calls = i.calls };
     start = λ s start i. record {
       one_owner = i.one_owner;
       calls = λ m c live.
-          put_cases s.calls (s.world.desk.last + 1) (Some (fresh_call s.world.desk.rules start)) m (Some c) (Owns s.world.desk.owners m c.plan) live
-          (λ here is. subst (λ v. Owns s.world.desk.owners m (plan_left v)) is (fresh_owns s.world.desk.owners m s.world.desk.rules start))
+          put_cases s.calls (s.world.desk.last + 1) (Some (fresh_call s.world.table.division.parts s.world.desk.rules start)) m (Some c) (Owns s.world.desk.owners m c.plan) live
+          (λ here is. subst (λ v. Owns s.world.desk.owners m (plan_left v)) is (fresh_owns s.world.desk.owners m s.world.table.division.parts s.world.desk.rules start))
           (λ there is. i.calls m c is);
     };
     step = owned_step;

@@ -47,6 +47,7 @@ use Rattle.moka_laws.proofs.StepCases.{OnStep, step_cases}
 use Rattle.moka_laws.proofs.Outcomes.{Outcomes, outcomes, computes_of, passes_by}
 use Rattle.moka_hist.specs.declared.loads.Compute.{Compute}
 use Rattle.moka_hist.specs.Computing.{after_told_op, after_read_key}
+use Rattle.moka_laws.proofs.Walks.{weigh_finds}
 
 module _ {K V E : Type 0} where
   -- ---- the write of a live call is with no other call, and isn't owed
@@ -295,6 +296,20 @@ module _ {K V E : Type 0} where
       λ k old on some. as_owed refl refl (moves (λ a e. cc)
           (λ x d. omega (arith, ap (weigh (post_of x)) e, ap (λ b. cond {A = ℕ} b 1 0) (other_number n x d)))),
     )
+    on_item (plan.List_keys part) rest e = (
+      λ more. as_owed refl refl (still_parts owes n c.plan _ (λ x. refl) (λ a e. cc)),
+      λ listed keys is gives. as_owed refl refl (goes_parts owes n c.plan c (map plan.Find keys ++ rest)
+          (λ x d. omega (arith, ap (weigh (post_of x)) e, weigh_finds {E = E} (post_of x) (λ key. refl) keys rest))),
+    )
+    on_item (plan.Find key) rest e = (
+      λ more. as_owed refl refl (still_parts owes n c.plan _ (λ x. refl) (λ a e. cc)),
+      λ none. as_owed refl refl (goes_on (plan.Find key) rest e),
+      λ k stored some. as_owed refl refl (moves (λ a e. cc) (λ x d. omega (arith, ap (weigh (post_of x)) e))),
+    )
+    on_item (plan.Scan there stored) rest e = (
+      λ seen. as_owed refl refl (moves (λ a e. cc) (λ x d. omega (arith, ap (weigh (post_of x)) e))),
+      λ unseen. as_owed refl refl (goes_on (plan.Scan there stored) rest e),
+    )
     on_item (plan.Reply reply) rest e = as_owed refl refl (clear_parts owes n c.plan (λ x. refl) (λ a e. refl))
     on_item (plan.Settle with) rest e = as_owed refl refl (goes_on (plan.Settle with) rest e)
     on_item item rest e = passes_by eq (Leaves w n c.plan) w n c item rest tt
@@ -345,11 +360,11 @@ module _ {K V E : Type 0} (eq : K → K → Bool) where
       new : ℕ
       new = s.world.desk.last + 1
 
-      fresh : (k x : ℕ) → weigh_call (post_of x) (s.calls k) ≡ 0 → weigh_call (post_of x) (put_at s.calls (s.world.desk.last + 1) (Some (fresh_call s.world.desk.rules start)) k) ≡ 0
+      fresh : (k x : ℕ) → weigh_call (post_of x) (s.calls k) ≡ 0 → weigh_call (post_of x) (put_at s.calls (s.world.desk.last + 1) (Some (fresh_call s.world.table.division.parts s.world.desk.rules start)) k) ≡ 0
       fresh k x h = at (s.world.desk.last + 1 == k)
         where
-          at : (b : Bool) → weigh_call (post_of x) (cond b (Some (fresh_call s.world.desk.rules start)) (s.calls k)) ≡ 0
-          at true = (fresh_clear s.world.desk.rules start).posts x
+          at : (b : Bool) → weigh_call (post_of x) (cond b (Some (fresh_call s.world.table.division.parts s.world.desk.rules start)) (s.calls k)) ≡ 0
+          at true = (fresh_clear s.world.table.division.parts s.world.desk.rules start).posts x
           at false = h
 
       -- nothing of a number that was not given out stands anywhere
@@ -370,7 +385,7 @@ module _ {K V E : Type 0} (eq : K → K → Bool) where
             others = λ k other. fresh k (s.world.desk.last + 1) (unborn k (s.calls k) refl);
           })
       by false e =
-          let a = i.alone m d (sym (put_there s.calls (s.world.desk.last + 1) (Some (fresh_call s.world.desk.rules start)) m e) ∙ lives) in
+          let a = i.alone m d (sym (put_there s.calls (s.world.desk.last + 1) (Some (fresh_call s.world.table.division.parts s.world.desk.rules start)) m e) ∙ lives) in
           record { owed = a.owed; others = λ k other. fresh k m (a.others k other) }
 
   alone_drop : (s : State K V E) (n : ℕ) (c : Call K V E) → s.calls n ≡ Some c → AreAlone s → (m : ℕ) (d : Call K V E) → put_at s.calls n None m ≡ Some d →
@@ -397,7 +412,7 @@ module _ {K V E : Type 0} (eq : K → K → Bool) where
 
   alone_kept : IsInvariant eq (AreAlone {K = K} {V = V} {E = E})
   alone_kept = record {
-    fresh = λ rules size tests has_log. record { balanced = (balanced_kept eq).fresh rules size tests has_log; alone = λ n c live. absurd (none_some live) };
+    fresh = λ division divides rules size tests has_log. record { balanced = (balanced_kept eq).fresh division divides rules size tests has_log; alone = λ n c live. absurd (none_some live) };
     at = λ s moment i. record {
       balanced = (balanced_kept eq).at s moment i.balanced;
       alone = λ m d live. let a = i.alone m d live in record { owed = a.owed; others = a.others };

@@ -33,13 +33,14 @@ use Rattle.moka_laws.specs.Removals.{PlacesComeBack}
 use Rattle.moka_laws.proofs.Counting.{none_some, put_here, put_there}
 use Rattle.moka_laws.proofs.Holding.{HoldsAs, IsHolding, all_leave, holding_kept, others_hold}
 use Rattle.moka_laws.proofs.Owning.{plan_left}
-use Rattle.moka_laws.proofs.Plans.{IsTail, Answering, Settling, IsDrained, Looking, Putting, IsPosted, Draining, Ended, Locking, IsPlan, Posted, Drained, Posting, Hearing, Noticing, Listening, Unlocking, Turning, Applying, Ending, Judging, Owning, Giving, Reading, Asking, Telling, Writing, IsLook, Removing, Locking_out, Choosing, Finding, Chosen, Taking, Freeing, Hiding, Idling, AllKnown, known_kept, Asking_op, Owning_key, Owning_alone, Reading_key, Telling_op}
-use Rattle.moka_laws.proofs.Rules.{abort_next, put_plans, chosen_next, kept_next, loaded_plans, IsFresh, Disabled, fresh_plan, read_key_next, told_op_next}
+use Rattle.moka_laws.proofs.Plans.{IsTail, Answering, Settling, IsDrained, Looking, Putting, IsPosted, Draining, Ended, Locking, IsPlan, Posted, Drained, Posting, Hearing, Noticing, Listening, Unlocking, Turning, Applying, Ending, Judging, Owning, Giving, Reading, Asking, Telling, Writing, IsLook, Removing, Locking_out, Choosing, Finding, Chosen, Taking, Freeing, Hiding, Idling, AllKnown, known_kept, Asking_op, Owning_key, Owning_alone, Reading_key, Telling_op, Walking}
+use Rattle.moka_laws.proofs.Rules.{abort_next, put_plans, chosen_next, kept_next, loaded_plans, IsFresh, Disabled, fresh_plan, read_key_next, told_op_next, Walks_over}
 use Rattle.moka_laws.proofs.Kept.{IsInvariant, in_reached}
 use Rattle.moka_laws.proofs.StepCases.{OnStep, step_cases}
 use Rattle.moka_laws.proofs.Outcomes.{outcomes}
 use Rattle.moka_hist.specs.declared.loads.Compute.{Compute}
 use Rattle.moka_hist.specs.Computing.{after_told_op, after_read_key}
+use Rattle.moka_laws.proofs.Walks.{Ends, Finds, IsWalk, Lists, Scans, Walks, Walks_giving, Walks_on, Walks_still, on_walk, walk_is_walk}
 
 -- the call has a place for a write of its own, and the moment of its change is pending
 abbrev IsPending : Option Holding → Type 0
@@ -133,8 +134,26 @@ module _ {K V E : Type 0} where
         (λ on. tt)
         (p)
 
+    walk_pends : (p : List (Item K V E)) → IsWalk p → Pends h p
+    walk_pends p Ends = tt
+    walk_pends p (Lists part rest walk) = tt
+    walk_pends p (Finds key rest walk) = tt
+    walk_pends p (Scans there stored rest walk) = tt
+
+    goes_pends : (c : Call K V E) (p : List (Item K V E)) → IsWalk p → Pends h (plan_left (goes c p).left)
+    goes_pends c p Ends = tt
+    goes_pends c p (Lists part rest walk) = tt
+    goes_pends c p (Finds key rest walk) = tt
+    goes_pends c p (Scans there stored rest walk) = tt
+
+    walks_pend : (c : Call K V E) → Pends h c.plan → (next : Next K V E) → Walks c next → Pends h (plan_left next.left)
+    walks_pend c was next (Walks_on rest walk) = goes_pends c rest walk
+    walks_pend c was next Walks_still = was
+    walks_pend c was next (Walks_giving key value rest walk) = walk_pends rest walk
+
     form_pends : (rules : Rules) (p : List (Item K V E)) → IsFresh rules p → Pends h p
     form_pends rules p (Disabled a d plain) = tt
+    form_pends rules p (Walks_over parts able) = walk_pends p (walk_is_walk 0 parts)
     form_pends rules p _ = tt
 
   module _ (eq : K → K → Bool) (w : World K V E) (n : ℕ) (c : Call K V E)
@@ -247,6 +266,8 @@ module _ {K V E : Type 0} where
     on_plan p e k (Freeing rest t) = outcomes eq After w n c (plan.Unlock false) rest
         (tail_pends _ c rest t)
     on_plan p e k Hiding = outcomes eq After w n c plan.Invalidate_all (plan.Reply reply.Done ∷ []) tt
+    on_plan p e k (Walking rest walk) = on_walk eq After w n c rest walk
+        (λ listings stay next on. walks_pend _ c (subst (Pends (w.desk.holding n)) (sym e) (walk_pends _ p walk)) next on) tt
     on_plan p e k (Idling rest t) = outcomes eq After w n c plan.Idle rest (tail_pends _ c rest t)
 
 -- ---- of a state
@@ -296,9 +317,9 @@ module _ {K V E : Type 0} (eq : K → K → Bool) where
 
   placed_kept : IsInvariant eq IsPlaced
   placed_kept = record {
-    fresh = λ rules size tests has_log. record {
-      holding = (holding_kept eq).fresh rules size tests has_log;
-      known = (known_kept eq).fresh rules size tests has_log;
+    fresh = λ division divides rules size tests has_log. record {
+      holding = (holding_kept eq).fresh division divides rules size tests has_log;
+      known = (known_kept eq).fresh division divides rules size tests has_log;
       pends = λ n. tt;
     };
     at = λ s moment i.
@@ -312,9 +333,9 @@ module _ {K V E : Type 0} (eq : K → K → Bool) where
       holding = (holding_kept eq).start s start i.holding;
       known = (known_kept eq).start s start i.known;
       pends = pends_on s (s.world.desk.last + 1) (started s start).world
-          (Some (fresh_call s.world.desk.rules start)) i.pends
-          (form_pends _ s.world.desk.rules (plan_of s.world.desk.rules start)
-          (fresh_plan s.world.desk.rules start)) (λ m e. refl);
+          (Some (fresh_call s.world.table.division.parts s.world.desk.rules start)) i.pends
+          (form_pends _ s.world.desk.rules (plan_of s.world.table.division.parts s.world.desk.rules start)
+          (fresh_plan s.world.table.division.parts s.world.desk.rules start)) (λ m e. refl);
     };
     step = placed_step;
     tell = λ s n given asked i. record {
@@ -368,6 +389,10 @@ module _ {K V E : Type 0} (eq : K → K → Bool) where
   used n pending p (Taking removal key) k q = inl (is_pending pending q)
   used n pending p (Freeing rest t) k q = inl (either_pending pending q)
   used n pending p (Idling rest t) k q = inl (is_pending pending q)
+  used n pending p (Walking rest Ends) k q = absurd (none_some (sym k.0))
+  used n pending p (Walking rest (Lists part more walk)) k q = absurd (none_some (sym k.0))
+  used n pending p (Walking rest (Finds key more walk)) k q = absurd (none_some (sym k.0))
+  used n pending p (Walking rest (Scans there stored more walk)) k q = absurd (none_some (sym k.0))
   used n pending p _ k q = absurd (none_some (sym k.0))
 
   pub places_back : PlacesComeBack K V E eq

@@ -27,9 +27,10 @@ use Rattle.moka_hist.specs.declared.visits.Settled.{Settled}
 use Rattle.moka_hist.specs.declared.visits.Settled.TheVariants as settled
 use Rattle.moka_hist.specs.declared.visits.Found.TheVariants as found
 use Rattle.moka_hist.specs.declared.writes.Write as write
-use Rattle.moka_laws.proofs.Rules.{put_plans, loaded_plans, kept_next, chosen_next, read_key_next, told_op_next, IsFresh, Disabled, Gets, Loads, Owns, Computes, Computes_alone, Finds_or_puts, Gives_back, Puts, Locks_and_puts, Takes_out, Locks_and_takes_out, Evicts, Invalidates_all, Locks_and_evicts, fresh_plan}
+use Rattle.moka_laws.proofs.Rules.{put_plans, loaded_plans, kept_next, chosen_next, read_key_next, told_op_next, IsFresh, Disabled, Gets, Loads, Owns, Computes, Computes_alone, Finds_or_puts, Gives_back, Puts, Locks_and_puts, Takes_out, Locks_and_takes_out, Evicts, Invalidates_all, Walks_over, Locks_and_evicts, fresh_plan}
 use Rattle.moka_laws.proofs.StepCases.{OnStep, step_cases}
 use Rattle.moka_laws.proofs.Outcomes.{alone_of, outcomes, OwnsKey}
+use Rattle.moka_laws.proofs.Walks.{IsWalk, Walks, Walks_giving, Walks_on, Walks_still, on_walk, walk_is_walk}
 use Rattle.moka_laws.proofs.Kept.{IsInvariant, in_reached}
 use Rattle.moka_laws.proofs.Counting.{none_some, put_cases}
 
@@ -109,6 +110,7 @@ module _ {K V E : Type 0} where
     Freeing : (rest : List (Item K V E)) → IsTail rest → IsPlan (plan.Unlock false ∷ rest)
     Idling : (rest : List (Item K V E)) → IsTail rest → IsPlan (plan.Idle ∷ rest)
     Hiding : IsPlan (plan.Invalidate_all ∷ plan.Reply answer.Done ∷ [])
+    Walking : (rest : List (Item K V E)) → IsWalk rest → IsPlan rest
 
   -- the call's plan has one of these forms, and it has not given up yet
   pub record IsKnown (c : Call K V E) : Type 0 where
@@ -220,16 +222,22 @@ module _ {K V E : Type 0} where
   fresh_form rules p (Locks_and_takes_out removal key on named) =
       Posted _ (Draining _ (Locking_out removal key))
   fresh_form rules p Invalidates_all = Hiding
+  fresh_form rules p (Walks_over parts able) = Walking _ (walk_is_walk 0 parts)
   fresh_form rules p (Evicts key stamp cause off) = Finding key stamp cause
   fresh_form rules p (Locks_and_evicts key stamp cause on) = Choosing key stamp cause
 
-  fresh_known : (rules : Rules) (s : Start K V) → IsKnown (fresh_call rules s)
-  fresh_known rules s =
-      record { plan = fresh_form rules (plan_of rules s) (fresh_plan rules s); young = omega arith }
+  fresh_known : (parts : ℕ) (rules : Rules) (s : Start K V) → IsKnown (fresh_call parts rules s)
+  fresh_known parts rules s =
+      record { plan = fresh_form rules (plan_of parts rules s) (fresh_plan parts rules s); young = omega arith }
 
   module _ (eq : K → K → Bool) (w : World K V E) (n : ℕ) (c : Call K V E) (h : IsKnown c) where
     abbrev Leaves : World K V E → Next K V E → Type 0
     Leaves new next = KnownIf next.left
+
+    walks_known : (next : Next K V E) → Walks c next → KnownIf next.left
+    walks_known next (Walks_on rest walk) = goes_known c rest h.young (Walking rest walk)
+    walks_known next Walks_still = record { plan = h.plan; young = h.young }
+    walks_known next (Walks_giving key value rest walk) = record { plan = Walking rest walk; young = h.young }
 
     on_tail : (p : List (Item K V E)) → IsTail p → OnStep eq Leaves w n c p
     on_tail p (Answering a) = outcomes eq Leaves w n c (plan.Reply a) [] tt
@@ -362,6 +370,7 @@ module _ {K V E : Type 0} where
     on_plan p (Freeing rest t) = outcomes eq Leaves w n c (plan.Unlock false) rest
         (goes_known c rest h.young (Posted _ (Ended _ t)))
     on_plan p Hiding = outcomes eq Leaves w n c plan.Invalidate_all (plan.Reply answer.Done ∷ []) tt
+    on_plan p (Walking rest walk) = on_walk eq Leaves w n c rest walk (λ listings stay next on. walks_known next on) tt
     on_plan p (Idling rest t) = outcomes eq Leaves w n c plan.Idle rest
         (goes_known c rest h.young (Posted _ (Ended _ t)))
 
@@ -382,11 +391,11 @@ module _ {K V E : Type 0} (eq : K → K → Bool) where
 
   pub known_kept : IsInvariant eq AllKnown
   known_kept = record {
-    fresh = λ rules size tests has_log n c live. absurd (none_some live);
+    fresh = λ division divides rules size tests has_log n c live. absurd (none_some live);
     at = λ s moment all. all;
     start = λ s start all n c live.
-        put_cases s.calls (s.world.desk.last + 1) (Some (fresh_call s.world.desk.rules start)) n (Some c) (IsKnown c) live
-        (λ here is. subst KnownIf is (fresh_known s.world.desk.rules start)) (λ there is. all n c is);
+        put_cases s.calls (s.world.desk.last + 1) (Some (fresh_call s.world.table.division.parts s.world.desk.rules start)) n (Some c) (IsKnown c) live
+        (λ here is. subst KnownIf is (fresh_known s.world.table.division.parts s.world.desk.rules start)) (λ there is. all n c is);
     step = known_step;
     tell = λ s n answer asked all. all;
     hear = λ s n off running all. all;

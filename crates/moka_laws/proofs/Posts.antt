@@ -22,10 +22,11 @@ use Rattle.moka_hist.specs.declared.events.Told.TheVariants as answer
 use Rattle.moka_hist.specs.declared.visits.Settled.{Settled}
 use Rattle.moka_hist.specs.declared.visits.Settled.TheVariants as settled
 use Rattle.moka_hist.specs.declared.visits.Found.TheVariants as found
-use Rattle.moka_laws.proofs.Rules.{abort_next, put_plans, loaded_plans, kept_next, chosen_next, IsFresh, Disabled, fresh_plan, read_key_next, told_op_next}
+use Rattle.moka_laws.proofs.Rules.{abort_next, put_plans, loaded_plans, kept_next, chosen_next, IsFresh, Disabled, fresh_plan, read_key_next, told_op_next, Walks_over}
 use Rattle.moka_laws.proofs.Weights.{weigh, weigh_call}
 use Rattle.moka_hist.specs.declared.loads.Compute.{Compute}
 use Rattle.moka_hist.specs.Computing.{after_told_op, after_read_key}
+use Rattle.moka_laws.proofs.Walks.{weigh_walk, walk_is_walk}
 
 -- 1 where two numbers are one, and else 0
 abbrev pub once : ℕ → ℕ → ℕ
@@ -62,6 +63,9 @@ module _ {K V E : Type 0} where
   may_write (plan.Notice key old cause upsert) = 0
   may_write plan.Heard = 0
   may_write plan.Idle = 0
+  may_write (plan.List_keys part) = 0
+  may_write (plan.Find key) = 0
+  may_write (plan.Scan there found) = 0
   may_write (plan.Settle with) = 0
   may_write (plan.Reply answer) = 0
   may_write _ = 1
@@ -134,11 +138,17 @@ module _ {K V E : Type 0} where
 
   fresh_form : (rules : Rules) (p : List (Item K V E)) → IsFresh rules p → IsClearPlan p
   fresh_form rules p (Disabled a d plain) = record { late = refl; posts = λ x. refl; may = omega arith }
+  fresh_form rules p (Walks_over parts able) = record {
+    late = late_none p (weigh_walk any_post (record { list = λ part. refl; find = λ key. refl; scan = λ there stored. refl; end = refl }) p (walk_is_walk 0 parts));
+    posts = λ x. weigh_walk (post_of x) (record { list = λ part. refl; find = λ key. refl; scan = λ there stored. refl; end = refl }) p (walk_is_walk 0 parts);
+    may = omega
+        (arith, weigh_walk may_write (record { list = λ part. refl; find = λ key. refl; scan = λ there stored. refl; end = refl }) p (walk_is_walk 0 parts));
+  }
   fresh_form rules p _ = record { late = refl; posts = λ x. refl; may = omega arith }
 
-  pub fresh_clear : (rules : Rules) (start : Start K V) → IsClear (Some (fresh_call rules start))
-  fresh_clear rules start =
-      let f = fresh_form rules (plan_of rules start) (fresh_plan rules start) in
+  pub fresh_clear : (parts : ℕ) (rules : Rules) (start : Start K V) → IsClear (Some (fresh_call parts rules start))
+  fresh_clear parts rules start =
+      let f = fresh_form rules (plan_of parts rules start) (fresh_plan parts rules start) in
       record { late = f.late; posts = f.posts; may = f.may }
 
   pub keeps_clear : (c : Call K V E) → IsClear (keeps c).left

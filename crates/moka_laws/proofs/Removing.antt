@@ -564,22 +564,22 @@ same_removal {K = K} x y e = (
 
 module _ {K V : Type 0} (E : Type 0) where
   -- a call that is started to take a record out has still to
-  starts_early : (rules : Rules) (begin : Start K V) (removal : Removal K) (key : K) (n : ℕ) →
+  starts_early : (parts : ℕ) (rules : Rules) (begin : Start K V) (removal : Removal K) (key : K) (n : ℕ) →
       removal_started begin ≡ Some (removal, key) →
-      Early removal key n (plan_of {E = E} rules begin)
-  starts_early rules (start.Invalidate k) removal key n e = by rules.listener
+      Early removal key n (plan_of {E = E} parts rules begin)
+  starts_early parts rules (start.Invalidate k) removal key n e = by rules.listener
     where
       by : (b : Bool) → Early {V = V} {E = E} removal key n
           (under_lock b k (plan.Moment (plan.To_take_out plan.To_invalidate k) ∷ []))
       by true = let f = same_removal (plan.To_invalidate, k) (removal, key) e in (f.0, f.1, tt)
       by false = let f = same_removal (plan.To_invalidate, k) (removal, key) e in (f.0, f.1, tt)
-  starts_early rules (start.Remove k) removal key n e = by rules.listener
+  starts_early parts rules (start.Remove k) removal key n e = by rules.listener
     where
       by : (b : Bool) → Early {V = V} {E = E} removal key n
           (under_lock b k (plan.Moment (plan.To_take_out plan.To_remove k) ∷ []))
       by true = let f = same_removal (plan.To_remove, k) (removal, key) e in (f.0, f.1, tt)
       by false = let f = same_removal (plan.To_remove, k) (removal, key) e in (f.0, f.1, tt)
-  starts_early rules (start.Evict k stamp cause) removal key n e = by rules.listener
+  starts_early parts rules (start.Evict k stamp cause) removal key n e = by rules.listener
     where
       same : (removal ≡ plan.To_evict_chosen stamp cause) × (k ≡ key)
       same = let f = same_removal (plan.To_evict_chosen stamp cause, k) (removal, key) e in
@@ -589,7 +589,7 @@ module _ {K V : Type 0} (E : Type 0) where
           (under_lock b k (plan.Get (plan.To_evict k stamp cause) k ∷ []))
       by true = same
       by false = same
-  starts_early rules _ removal key n e = absurd (none_some e)
+  starts_early parts rules _ removal key n e = absurd (none_some e)
 
 module _ {K V E : Type 0} (eq : K → K → Bool) (laws : IsEquivalence eq) where
   pub removals_answer : RemovalsAnswer K V E eq
@@ -622,7 +622,7 @@ module _ {K V E : Type 0} (eq : K → K → Bool) (laws : IsEquivalence eq) wher
             so = subst (IsSoIf eq laws begin removal key n (started w.before begin))
                 (sym (ap (λ v. (started w.before begin).calls v) is.0 ∙ put_here w.before.calls
                 (w.before.world.desk.last + 1) _))
-                (inl (starts_early E w.before.world.desk.rules begin removal key n what));
+                (inl (starts_early E w.before.world.table.division.parts w.before.world.desk.rules begin removal key n what));
           }
 
   pub remove_taken : RemoveAnswersTaken K V E eq

@@ -43,8 +43,8 @@ use Rattle.moka_laws.proofs.Balance.{IsBalanced, times_first}
 use Rattle.moka_laws.proofs.Balanced.{balanced_kept, next_free}
 use Rattle.moka_laws.proofs.Locking.{IsLocking, locking_kept, of_key}
 use Rattle.moka_laws.proofs.Owning.{plan_left}
-use Rattle.moka_laws.proofs.Plans.{IsTail, Answering, Settling, IsDrained, Looking, Putting, IsPosted, Draining, Ended, Locking, IsPlan, Posted, Drained, Posting, Hearing, Noticing, Listening, Unlocking, Turning, Applying, Ending, Judging, Owning, Giving, Reading, Asking, Telling, Writing, IsKnown, known_kept, IsLook, Removing, Locking_out, Choosing, Finding, Chosen, Taking, Freeing, Hiding, Idling, Asking_op, Owning_key, Owning_alone, Reading_key, Telling_op}
-use Rattle.moka_laws.proofs.Rules.{abort_next, put_plans, loaded_plans, kept_next, chosen_next, IsFresh, Disabled, fresh_plan, read_key_next, told_op_next}
+use Rattle.moka_laws.proofs.Plans.{IsTail, Answering, Settling, IsDrained, Looking, Putting, IsPosted, Draining, Ended, Locking, IsPlan, Posted, Drained, Posting, Hearing, Noticing, Listening, Unlocking, Turning, Applying, Ending, Judging, Owning, Giving, Reading, Asking, Telling, Writing, IsKnown, known_kept, IsLook, Removing, Locking_out, Choosing, Finding, Chosen, Taking, Freeing, Hiding, Idling, Asking_op, Owning_key, Owning_alone, Reading_key, Telling_op, Walking}
+use Rattle.moka_laws.proofs.Rules.{abort_next, put_plans, loaded_plans, kept_next, chosen_next, IsFresh, Disabled, fresh_plan, read_key_next, told_op_next, Walks_over}
 use Rattle.moka_laws.proofs.Kept.{IsInvariant, in_reached}
 use Rattle.moka_laws.proofs.StepCases.{OnStep, step_cases}
 use Rattle.moka_laws.proofs.Outcomes.{outcomes}
@@ -56,6 +56,7 @@ use Rattle.moka_laws.proofs.Rules.{said_next}
 use Rattle.moka_hist.specs.Writing.{cause_handed}
 use Rattle.moka_laws.proofs.Outcomes.{taken_out}
 use Rattle.moka_hist.specs.declared.writes.Write.TheVariants.{Remove}
+use Rattle.moka_laws.proofs.Walks.{IsLight, on_walk, walks_weigh, weigh_walk, walk_is_walk}
 
 -- ---- writes that replaced a record
 
@@ -218,11 +219,13 @@ module _ {K V E : Type 0} where
 
   fresh_form : (rules : Rules) (p : List (Item K V E)) → IsFresh rules p → ClearPlan p
   fresh_form rules p (Disabled a d plain) = record { swaps = λ x. refl; notice = refl }
+  fresh_form rules p (Walks_over parts able) =
+      record { swaps = λ x. weigh_walk (swap_of x) (record { list = λ part. refl; find = λ key. refl; scan = λ there stored. refl; end = refl }) p (walk_is_walk 0 parts); notice = weigh_walk notice_of (record { list = λ part. refl; find = λ key. refl; scan = λ there stored. refl; end = refl }) p (walk_is_walk 0 parts) }
   fresh_form rules p _ = record { swaps = λ x. refl; notice = refl }
 
-  fresh_clear : (rules : Rules) (start : Start K V) → Clear (Some (fresh_call rules start))
-  fresh_clear rules start =
-      let f = fresh_form rules (plan_of rules start) (fresh_plan rules start) in
+  fresh_clear : (parts : ℕ) (rules : Rules) (start : Start K V) → Clear (Some (fresh_call parts rules start))
+  fresh_clear parts rules start =
+      let f = fresh_form rules (plan_of parts rules start) (fresh_plan parts rules start) in
       record { swaps = f.swaps; notice = f.notice }
 
   -- ---- a step
@@ -320,6 +323,7 @@ module _ {K V E : Type 0} where
   plan_opens p (Writing key value moment rest t) h = absurd (omega (arith, (tail_clear rest t).0))
   plan_opens p (Freeing rest t) h = absurd (omega (arith, (tail_clear rest t).0))
   plan_opens p (Idling rest t) h = absurd (omega (arith, (tail_clear rest t).0))
+  plan_opens p (Walking rest walk) h = absurd (omega (arith, weigh_walk notice_of (record { list = λ part. refl; find = λ key. refl; scan = λ there stored. refl; end = refl }) p walk))
   plan_opens p _ h = absurd (omega arith)
 
   pub opens_notice : (p : List (Item K V E)) → OpensNotice p → 0 < weigh notice_of p
@@ -578,6 +582,16 @@ module _ {K V E : Type 0} where
     on_plan p e Hiding = outcomes eq (Made p) w n c plan.Invalidate_all (plan.Reply said_as.Done ∷ [])
         (clears eq w n c p refl refl refl (record { swaps = λ x. refl; notice = refl }) refl
         (λ x. refl) (λ x. refl))
+    on_plan p e (Walking rest walk) =
+        let light : (x : ℕ) → IsLight {K = K} {V = V} {E = E} (swap_of x) = λ x. (record { list = λ part. refl; find = λ key. refl; scan = λ there stored. refl; end = refl }) in
+        let told : IsLight {K = K} {V = V} {E = E} notice_of = (record { list = λ part. refl; find = λ key. refl; scan = λ there stored. refl; end = refl }) in
+        on_walk eq (Made p) w n c rest walk
+        (λ listings stay next on. clears eq w n c p refl refl refl (record {
+          swaps = λ x. walks_weigh (swap_of x) (light x) (λ a. refl) c (ap (weigh (swap_of x)) e ∙ weigh_walk (swap_of x) (light x) p walk) next on;
+          notice = walks_weigh notice_of told (λ a. refl) c (ap (weigh notice_of) e ∙ weigh_walk notice_of told p walk) next on;
+        }) (weigh_walk notice_of told p walk) (λ x. weigh_walk (swap_of x) (light x) p walk) (λ x. refl))
+        (clears eq w n c p refl refl refl (record { swaps = λ x. refl; notice = refl })
+        (weigh_walk notice_of told p walk) (λ x. weigh_walk (swap_of x) (light x) p walk) (λ x. refl))
     on_plan p e (Idling _ (Answering a)) = outcomes eq (Made p) w n c plan.Idle (plan.Reply a ∷ [])
         (clears eq w n c p refl refl refl (record { swaps = λ x. refl; notice = refl }) refl
         (λ x. refl) (λ x. refl))
@@ -702,8 +716,8 @@ module _ {K V E : Type 0} (eq : K → K → Bool) where
   replacing_start : (s : State K V E) (start : Start K V) → IsReplacing s → IsReplacing (started s start)
   replacing_start s start i =
       let new : ℕ = s.world.desk.last + 1 in
-      let d : Call K V E = fresh_call {E = E} s.world.desk.rules start in
-      let clear : Clear (Some d) = fresh_clear s.world.desk.rules start in
+      let d : Call K V E = fresh_call {E = E} s.world.table.division.parts s.world.desk.rules start in
+      let clear : Clear (Some d) = fresh_clear s.world.table.division.parts s.world.desk.rules start in
       record {
         balanced = (balanced_kept eq).start s start i.balanced;
         locking = (locking_kept eq).start s start i.locking;
@@ -721,8 +735,8 @@ module _ {K V E : Type 0} (eq : K → K → Bool) where
             omega (arith, i.each on x, clear.swaps x, notices);
       }
     where
-      one : weigh_call notice_of (Some (fresh_call {E = E} s.world.desk.rules start)) ≡ 0 → (x : ℕ) (t : Bool) → (s.world.desk.last + 1 == x) ≡ t →
-          weigh_call notice_of (cond t (Some (fresh_call {E = E} s.world.desk.rules start)) (s.calls x)) ≡ weigh_call notice_of (s.calls x)
+      one : weigh_call notice_of (Some (fresh_call {E = E} s.world.table.division.parts s.world.desk.rules start)) ≡ 0 → (x : ℕ) (t : Bool) → (s.world.desk.last + 1 == x) ≡ t →
+          weigh_call notice_of (cond t (Some (fresh_call {E = E} s.world.table.division.parts s.world.desk.rules start)) (s.calls x)) ≡ weigh_call notice_of (s.calls x)
       one none x false e = refl
       one none x true e =
           let free : weigh_call notice_of (s.calls x) ≡ 0 =
@@ -785,10 +799,10 @@ module _ {K V E : Type 0} (eq : K → K → Bool) where
 
   pub replacing_kept : IsInvariant eq (IsReplacing {K = K} {V = V} {E = E})
   replacing_kept = record {
-    fresh = λ rules size tests has_log. record {
-      balanced = (balanced_kept eq).fresh rules size tests has_log;
-      locking = (locking_kept eq).fresh rules size tests has_log;
-      known = (known_kept eq).fresh rules size tests has_log;
+    fresh = λ division divides rules size tests has_log. record {
+      balanced = (balanced_kept eq).fresh division divides rules size tests has_log;
+      locking = (locking_kept eq).fresh division divides rules size tests has_log;
+      known = (known_kept eq).fresh division divides rules size tests has_log;
       mid = λ n c live. absurd (none_some live);
       quiet = λ off x. refl;
       each = λ on x. omega (arith, sum_zero (λ n. 0));

@@ -1,5 +1,5 @@
 -- What a plan says of its call: whether it owns a load, and which load it waits for.
-use Rattle.std.proofs.Common.{◌≡◌, ◌≢◌, ℕ, false, cond, List, [], ◌∷◌, Option, Some, None, is_some, refl, sym, arith}
+use Rattle.std.proofs.Common.{◌≡◌, ◌≢◌, ℕ, false, cond, List, [], ◌∷◌, Option, Some, None, is_some, refl, sym, arith, map, ◌++◌, ap}
 use Rattle.moka_hist.specs.State.{Call}
 use Rattle.moka_hist.specs.Plan.{Item, Aim, plan_of}
 use Rattle.moka_hist.specs.Plan as plan
@@ -18,13 +18,14 @@ use Rattle.moka_hist.specs.declared.visits.Settled.TheVariants as settled
 use Rattle.moka_hist.specs.declared.visits.Found.TheVariants as found
 use Rattle.moka_laws.specs.Missing.{waits_for}
 use Rattle.moka_laws.proofs.Counting.{none_some}
-use Rattle.moka_laws.proofs.Rules.{abort_next, put_plans, loaded_plans, kept_next, chosen_next, IsFresh, Takes_out, Locks_and_takes_out, fresh_plan, told_op_next}
+use Rattle.moka_laws.proofs.Rules.{abort_next, put_plans, loaded_plans, kept_next, chosen_next, IsFresh, Takes_out, Locks_and_takes_out, fresh_plan, told_op_next, Walks_over}
 use Rattle.moka_laws.proofs.Weights.{weigh}
 use Rattle.moka_laws.proofs.Owning.{plan_left}
 use Rattle.moka_laws.proofs.Outcomes.{computes_of}
 use Rattle.moka_laws.proofs.Plans.{IsLook}
 use Rattle.moka_hist.specs.declared.loads.Compute.{Compute}
 use Rattle.moka_hist.specs.Computing.{after_told_op, after_read_key}
+use Rattle.moka_laws.proofs.Walks.{IsWalk, Ends, Lists, Finds, Scans, weigh_walk, walk_is_walk}
 
 module _ {K V E : Type 0} where
   -- an item that answers, or says itself how the call goes on, is the plan's last
@@ -205,10 +206,32 @@ module _ {K V E : Type 0} where
   read_key_fits o j c compute _ n f =
       record { last = refl; owning = f.owning; waiting = refl }
 
+  pub finds_last : (keys : List K) (rest : List (Item K V E)) → IsLast rest → IsLast (map plan.Find keys ++ rest)
+  finds_last [] rest h = h
+  finds_last (key ∷ keys) rest h = finds_last keys rest h
+
+  pub finds_await : (keys : List K) (rest : List (Item K V E)) → awaited (map plan.Find keys ++ rest) ≡ awaited rest
+  finds_await [] rest = refl
+  finds_await (key ∷ keys) rest = finds_await keys rest
+
+  walk_last : (p : List (Item K V E)) → IsWalk p → IsLast p
+  walk_last p Ends = refl
+  walk_last p (Lists part rest walk) = walk_last rest walk
+  walk_last p (Finds key rest walk) = walk_last rest walk
+  walk_last p (Scans there stored rest walk) = walk_last rest walk
+
+  pub walk_awaits : (p : List (Item K V E)) → IsWalk p → awaited p ≡ None
+  walk_awaits p Ends = refl
+  walk_awaits p (Lists part rest walk) = walk_awaits rest walk
+  walk_awaits p (Finds key rest walk) = walk_awaits rest walk
+  walk_awaits p (Scans there stored rest walk) = walk_awaits rest walk
+
   fresh_form : (rules : Rules) (p : List (Item K V E)) → IsFresh rules p → Fits None None p
   fresh_form rules p (Takes_out (plan.To_remove_as_told own) key off named) = absurd named
   fresh_form rules p (Locks_and_takes_out (plan.To_remove_as_told own) key on named) = absurd named
+  fresh_form rules p (Walks_over parts able) =
+      record { last = walk_last p (walk_is_walk 0 parts); owning = weigh_walk owners (record { list = λ part. refl; find = λ key. refl; scan = λ there stored. refl; end = refl }) p (walk_is_walk 0 parts); waiting = ap is_some (sym (walk_awaits p (walk_is_walk 0 parts))) }
   fresh_form rules p _ = record { last = refl; owning = refl; waiting = refl }
 
-  pub fresh_fits : (rules : Rules) (start : Start K V) → Fits None None (plan_of rules start)
-  fresh_fits rules start = fresh_form rules (plan_of rules start) (fresh_plan rules start)
+  pub fresh_fits : (parts : ℕ) (rules : Rules) (start : Start K V) → Fits None None (plan_of parts rules start)
+  fresh_fits parts rules start = fresh_form rules (plan_of parts rules start) (fresh_plan parts rules start)

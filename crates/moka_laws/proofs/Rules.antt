@@ -1,5 +1,5 @@
 -- How plans depend on the rules of the cache.
-use Rattle.std.proofs.Common.{◌≡◌, ◌+◌, ◌==◌, refl, Bool, true, false, cond, List, [], ◌∷◌, Option, Some, None}
+use Rattle.std.proofs.Common.{◌≡◌, ℕ, ◌+◌, ◌==◌, refl, Bool, true, false, cond, List, [], ◌∷◌, Option, Some, None}
 use Rattle.std.specs.Option.{option_map}
 use Rattle.std.proofs.lemmas.Bool.{eqb-true}
 use Rattle.moka_hist.specs.State.{Call}
@@ -9,7 +9,7 @@ use Rattle.moka_hist.specs.Writing.{said}
 use Rattle.moka_hist.specs.Loading.{after_abort, retries}
 use Rattle.moka_hist.specs.Computing.{after_read_key, after_told_op, end_compute, put_told}
 use Rattle.moka_hist.specs.Looking.{shown, keeps, kept_rest, finds_pair, chosen_or_not}
-use Rattle.moka_hist.specs.Plan.{Item, Aim, Shown, Removal, put, under_lock, take_out, is_disabled, told_on, load_rest, loaded, get_plan, insert_plan, load_plan, or_insert_plan, seek, plan_of}
+use Rattle.moka_hist.specs.Plan.{Item, Aim, Shown, Removal, put, under_lock, take_out, is_disabled, told_on, load_rest, loaded, get_plan, insert_plan, load_plan, or_insert_plan, iter_plan, seek, plan_of, walk_from}
 use Rattle.moka_hist.specs.Plan as plan
 use Rattle.moka_hist.specs.declared.events.Start.{Start}
 use Rattle.moka_hist.specs.declared.events.Start.TheVariants as start
@@ -278,10 +278,12 @@ IsPlain (answer.InitErr error) = ⊥
 IsPlain answer.RetriesExhausted = ⊥
 IsPlain _ = Unit {0}
 
--- the answer is one that a disabled cache gives at once: that nothing was found, or as if stored
+-- the answer is one that a disabled cache gives at once: that nothing was found, as if stored, or
+-- that the walk has ended
 abbrev pub IsAtOnce : {K V E : Type 0} → Answer K V E → Type 0
 IsAtOnce (answer.Found value) = Unit {0}
 IsAtOnce answer.Done = Unit {0}
+IsAtOnce answer.End = Unit {0}
 IsAtOnce (answer.Loaded value fresh) = Unit {0}
 IsAtOnce _ = ⊥
 
@@ -328,6 +330,7 @@ module _ {K V E : Type 0} where
         IsStarted removal →
         IsFresh rules (plan.Drain ∷ plan.Lock key ∷ plan.Moment (plan.To_take_out removal key) ∷ [])
     Invalidates_all : IsFresh rules (plan.Invalidate_all ∷ plan.Reply answer.Done ∷ [])
+    Walks_over : (parts : ℕ) → is_disabled rules ≡ false → IsFresh rules (walk_from 0 parts)
     Evicts : (key : K) (stamp : _) (cause : Cause) → rules.listener ≡ false →
         IsFresh rules (plan.Get (plan.To_evict key stamp cause) key ∷ [])
     Locks_and_evicts : (key : K) (stamp : _) (cause : Cause) → rules.listener ≡ true →
@@ -347,35 +350,40 @@ module _ {K V E : Type 0} where
       by true e = Owns sought e one
       by false e = Loads sought e one
 
-  pub fresh_plan : (rules : Rules) (s : Start K V) → IsFresh rules (plan_of rules s)
-  fresh_plan rules (start.Get key) = by (is_disabled rules) refl
+  pub fresh_plan : (parts : ℕ) (rules : Rules) (s : Start K V) → IsFresh rules (plan_of parts rules s)
+  fresh_plan parts rules (start.Get key) = by (is_disabled rules) refl
     where
       by : (b : Bool) → is_disabled rules ≡ b → IsFresh rules (get_plan b key)
       by true e = Disabled (answer.Found _) e tt
       by false e = Gets plan.As_value key e
-  fresh_plan rules (start.Insert key value) = by (is_disabled rules) refl
+  fresh_plan parts rules (start.Insert key value) = by (is_disabled rules) refl
     where
       by : (b : Bool) → is_disabled rules ≡ b → IsFresh rules (insert_plan b rules key value)
       by true e = Disabled answer.Done e tt
       by false e = put_plans_by (IsFresh rules) rules key value _ (λ off. Puts key value e off)
           (λ on. Locks_and_puts key value e on)
-  fresh_plan rules (start.GetWith key replace) = loads rules (seek kind.GetWith key replace) tt
-  fresh_plan rules (start.Optional key) = loads rules (seek kind.Optional key None) tt
-  fresh_plan rules (start.Try key) = loads rules (seek kind.Try key None) tt
-  fresh_plan rules (start.OrInsert key value) = by (is_disabled rules) refl
+  fresh_plan parts rules (start.GetWith key replace) = loads rules (seek kind.GetWith key replace) tt
+  fresh_plan parts rules (start.Optional key) = loads rules (seek kind.Optional key None) tt
+  fresh_plan parts rules (start.Try key) = loads rules (seek kind.Try key None) tt
+  fresh_plan parts rules (start.OrInsert key value) = by (is_disabled rules) refl
     where
       by : (b : Bool) → is_disabled rules ≡ b → IsFresh rules (or_insert_plan b key value)
       by true e = Gives_back _ e tt
       by false e = Finds_or_puts key value e
-  fresh_plan rules (start.ComputeAlone key) = Computes_alone key
-  fresh_plan rules (start.Invalidate key) = takes_out rules plan.To_invalidate key tt
-  fresh_plan rules (start.Remove key) = takes_out rules plan.To_remove key tt
-  fresh_plan rules start.InvalidateAll = Invalidates_all
-  fresh_plan rules (start.Evict key stamp cause) = by rules.listener refl
+  fresh_plan parts rules (start.ComputeAlone key) = Computes_alone key
+  fresh_plan parts rules (start.Invalidate key) = takes_out rules plan.To_invalidate key tt
+  fresh_plan parts rules (start.Remove key) = takes_out rules plan.To_remove key tt
+  fresh_plan parts rules start.InvalidateAll = Invalidates_all
+  fresh_plan parts rules start.Iter = by (is_disabled rules) refl
+    where
+      by : (b : Bool) → is_disabled rules ≡ b → IsFresh rules (iter_plan b parts)
+      by true e = Disabled answer.End e tt
+      by false e = Walks_over parts e
+  fresh_plan parts rules (start.Evict key stamp cause) = by rules.listener refl
     where
       by : (listener : Bool) → rules.listener ≡ listener →
           IsFresh rules (under_lock listener key
           (plan.Get (plan.To_evict key stamp cause) key ∷ []))
       by false e = Evicts key stamp cause e
       by true e = Locks_and_evicts key stamp cause e
-  fresh_plan rules _ = Computes _ tt
+  fresh_plan parts rules _ = Computes _ tt

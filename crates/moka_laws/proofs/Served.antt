@@ -133,25 +133,25 @@ module _ {K V E : Type 0} (eq : K → K → Bool) where
     where
       fit : s.world.desk.owning (s.world.desk.last + 1) ≡ None → s.world.desk.joined (s.world.desk.last + 1) ≡ None → (m : ℕ) (t : Bool) →
           (s.world.desk.last + 1 == m) ≡ t →
-          Fits (s.world.desk.owning m) (s.world.desk.joined m) (plan_left (cond t (Some (fresh_call {E = E} s.world.desk.rules start)) (s.calls m)))
+          Fits (s.world.desk.owning m) (s.world.desk.joined m) (plan_left (cond t (Some (fresh_call {E = E} s.world.table.division.parts s.world.desk.rules start)) (s.calls m)))
       fit none idle m true e =
           let is = eqb-true (s.world.desk.last + 1) m e in
-          subst (λ v. Fits v (s.world.desk.joined m) (plan_of {E = E} s.world.desk.rules start)) (sym none ∙ ap s.world.desk.owning is)
-          (subst (λ v. Fits None v (plan_of {E = E} s.world.desk.rules start)) (sym idle ∙ ap s.world.desk.joined is) (fresh_fits s.world.desk.rules start))
+          subst (λ v. Fits v (s.world.desk.joined m) (plan_of {E = E} s.world.table.division.parts s.world.desk.rules start)) (sym none ∙ ap s.world.desk.owning is)
+          (subst (λ v. Fits None v (plan_of {E = E} s.world.table.division.parts s.world.desk.rules start)) (sym idle ∙ ap s.world.desk.joined is) (fresh_fits s.world.table.division.parts s.world.desk.rules start))
       fit none idle m false e = i.fits m
 
       wait : s.world.desk.joined (s.world.desk.last + 1) ≡ None → (m o : ℕ) (load : Load K) → s.world.desk.joined m ≡ Some o →
-          awaited (plan_left (put_at s.calls (s.world.desk.last + 1) (Some (fresh_call {E = E} s.world.desk.rules start)) m)) ≡ Some load → (t : Bool) →
+          awaited (plan_left (put_at s.calls (s.world.desk.last + 1) (Some (fresh_call {E = E} s.world.table.division.parts s.world.desk.rules start)) m)) ≡ Some load → (t : Bool) →
           (s.world.desk.last + 1 == m) ≡ t → Answered eq s.world.desk.owning s.world.desk.settled o load
       wait idle m o load j a true e = absurd (none_some (sym idle ∙ ap s.world.desk.joined (eqb-true (s.world.desk.last + 1) m e) ∙ j))
       wait idle m o load j a false e = i.waits m o load j
-          (ap (λ v. awaited (plan_left v)) (sym (put_there s.calls (s.world.desk.last + 1) (Some (fresh_call {E = E} s.world.desk.rules start)) m e)) ∙ a)
+          (ap (λ v. awaited (plan_left v)) (sym (put_there s.calls (s.world.desk.last + 1) (Some (fresh_call {E = E} s.world.table.division.parts s.world.desk.rules start)) m e)) ∙ a)
 
   pub served_kept : IsInvariant eq IsServed
   served_kept = record {
-    fresh = λ rules size tests has_log. record {
-      balanced = (balanced_kept eq).fresh rules size tests has_log;
-      answering = (answering_kept eq).fresh rules size tests has_log;
+    fresh = λ division divides rules size tests has_log. record {
+      balanced = (balanced_kept eq).fresh division divides rules size tests has_log;
+      answering = (answering_kept eq).fresh division divides rules size tests has_log;
       fits = λ n. record { last = tt; owning = refl; waiting = refl };
       owner = λ load o e. absurd (none_some e);
       counted = λ o. sym (sum_zero (λ m. 0));

@@ -1,5 +1,5 @@
 -- Each item of a plan keeps what those that wait for owners count on.
-use Rattle.std.proofs.Common.{ap, ◌≡◌, ℕ, ◌+◌, ◌≤◌, ◌==◌, Bool, true, false, List, [], ◌∷◌, Option, Some, None, is_some, refl, sym, ◌∙◌, subst, arith}
+use Rattle.std.proofs.Common.{ap, ◌≡◌, ℕ, ◌+◌, ◌≤◌, ◌==◌, Bool, true, false, List, [], ◌∷◌, Option, Some, None, is_some, refl, sym, ◌∙◌, subst, arith, map, ◌++◌}
 use Rattle.moka_hist.specs.State.{World, Call}
 use Rattle.moka_hist.specs.Plan.{Item, Aim}
 use Rattle.moka_hist.specs.Plan as plan
@@ -17,11 +17,12 @@ use Rattle.moka_laws.proofs.StepCases.{OnStep}
 use Rattle.moka_laws.proofs.Outcomes.{Outcomes, outcomes, computes_of, passes_by}
 use Rattle.moka_laws.proofs.Answering.{HasAnswers, settlement_ready}
 use Rattle.moka_laws.proofs.Owning.{plan_left}
-use Rattle.moka_laws.proofs.Roles.{IsLast, owners, Fits, awaited, goes_fits, keeps_fits, misses_fits, unseen_fits, finds_fits, hits_fits, told_fits, read_fits, read_key_fits, goes_awaits, keeps_awaits, misses_awaits, finds_awaits, hits_awaits}
+use Rattle.moka_laws.proofs.Roles.{IsLast, owners, Fits, awaited, goes_fits, keeps_fits, misses_fits, unseen_fits, finds_fits, hits_fits, told_fits, read_fits, read_key_fits, goes_awaits, keeps_awaits, misses_awaits, finds_awaits, hits_awaits, finds_last, finds_await}
 use Rattle.moka_laws.proofs.Reading.{joins, Answered, OwnerOf}
 use Rattle.moka_laws.proofs.Serving.{ServesPart, part, no_load, no_owner, at_most_one, keeps, keeps_none, claims, joins_owner, joins_key_owner, leaves_owner, ends_own}
 use Rattle.moka_hist.specs.declared.loads.Compute.{Compute}
 use Rattle.moka_hist.specs.Computing.{after_told_op}
+use Rattle.moka_laws.proofs.Walks.{weigh_finds}
 
 module _ {K V E : Type 0} (eq : K → K → Bool) (w : World K V E) (n : ℕ) (c : Call K V E)
     (owner : (load : Load K) (o : ℕ) → w.desk.owners load ≡ Some o → OwnerOf eq w.desk.owning o load)
@@ -251,6 +252,21 @@ module _ {K V E : Type 0} (eq : K → K → Bool) (w : World K V E) (n : ℕ) (c
         λ k old on some. goes_free (record { last = refl; owning = f.owning; waiting = f.waiting })
             refl,
       )
+  on_item (plan.List_keys part) rest p q = (
+    λ more. goes_with _ p,
+    λ listed keys e gives. goes_rest (map plan.Find keys ++ rest)
+        (like (map plan.Find keys ++ rest) _ q (finds_last keys rest q.fits.last) (omega (arith, weigh_finds {E = E} owners (λ key. refl) keys rest))
+        (finds_await keys rest)),
+  )
+  on_item (plan.Find key) rest p q = (
+    λ more. goes_with _ p,
+    λ none. goes_rest rest (like rest _ q q.fits.last (omega arith) refl),
+    λ k stored some. goes_with _ (like (plan.Scan k stored ∷ rest) _ q q.fits.last (omega arith) refl),
+  )
+  on_item (plan.Scan there stored) rest p q = (
+    λ seen. goes_with _ (like rest _ q q.fits.last (omega arith) refl),
+    λ unseen. goes_rest rest (like rest _ q q.fits.last (omega arith) refl),
+  )
   on_item (plan.Reply answer) rest p q =
       let f = alone (plan.Reply answer) rest q.fits.last q in
       goes_free (record { last = tt; owning = omega (arith, f.owning); waiting = f.waiting }) refl

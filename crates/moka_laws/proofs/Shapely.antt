@@ -69,7 +69,7 @@ module _ {K V E : Type 0} (eq : K → K → Bool) (begin : Start K V)
       (subst (λ v. AllSuit begin (plan_left v)) led.2 next.suits) led.3
 
 pub shapes_fit : {K V E : Type 0} (eq : K → K → Bool) → ShapesFit K V E eq
-shapes_fit {K} {V} {E} eq rules begin n nobody path c given a led gives answers =
-    let suits = path_suits eq begin nobody n path (fresh_call rules begin) c
-    (fresh_suits E rules begin) led in
+shapes_fit {K} {V} {E} eq parts rules begin n nobody path c given a led gives answers =
+    let suits = path_suits eq begin nobody n path (fresh_call parts rules begin) c
+    (fresh_suits E parts rules begin) led in
     (step_suits eq begin nobody n c given suits gives).now a answers

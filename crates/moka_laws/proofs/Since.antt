@@ -1,6 +1,6 @@
 -- What a call has done since it was started: how often it read that an owner was dropped, and asked its
 -- replace test.
-use Rattle.std.proofs.Common.{◌≡◌, ℕ, zero, suc, ◌+◌, ◌≤◌, ◌==◌, nat_lt, Bool, true, false, cond, ◌&&◌, List, [], ◌∷◌, Option, Some, None, is_some, MatchBool, MatchOption, ◌⊎◌, inl, inr, refl, sym, ap, ◌∙◌, subst, arith}
+use Rattle.std.proofs.Common.{◌≡◌, ℕ, zero, suc, ◌+◌, ◌≤◌, ◌==◌, nat_lt, Bool, true, false, cond, ◌&&◌, List, [], ◌∷◌, Option, Some, None, is_some, MatchBool, MatchOption, ◌⊎◌, inl, inr, refl, sym, ap, ◌∙◌, subst, arith, map, ◌++◌}
 use Rattle.std.specs.Option.{option_map_or}
 use Rattle.moka_hist.specs.Dropping.{dropped}
 use Rattle.moka_hist.specs.State.{State, World, Call, DeskPart}
@@ -42,13 +42,14 @@ use Rattle.moka_hist.specs.Writing.{said, nothing_answer, removed_answer}
 use Rattle.moka_hist.specs.declared.replies.Answer.{Answer}
 use Rattle.moka_laws.proofs.Weights.{weigh, weigh_call, weigh_goes, weigh_said}
 use Rattle.moka_laws.proofs.Following.{no_leads}
-use Rattle.moka_laws.proofs.Rules.{put_plans, loaded_plans, kept_next, chosen_by, chosen_next, IsFresh, Disabled, fresh_plan, read_key_next, told_op_next}
+use Rattle.moka_laws.proofs.Rules.{put_plans, loaded_plans, kept_next, chosen_by, chosen_next, IsFresh, Disabled, fresh_plan, read_key_next, told_op_next, Walks_over}
 use Rattle.moka_laws.proofs.Starting.{begins_so}
 use Rattle.moka_laws.proofs.Steady.{step_calls, step_last}
 use Rattle.moka_laws.proofs.StepCases.{OnStep, step_cases}
 use Rattle.moka_laws.proofs.Outcomes.{Outcomes, outcomes, passes_on}
 use Rattle.moka_hist.specs.declared.loads.Compute.{Compute}
 use Rattle.moka_hist.specs.Computing.{after_told_op, after_read_key}
+use Rattle.moka_laws.proofs.Walks.{weigh_walk, weigh_finds, walk_is_walk}
 
 -- ---- how often the test may still be asked
 
@@ -131,6 +132,7 @@ module _ {K V E : Type 0} where
 
   fresh_tests : (rules : Rules) (p : List (Item K V E)) → IsFresh rules p → weigh tests p ≤ 2
   fresh_tests rules p (Disabled a d plain) = omega arith
+  fresh_tests rules p (Walks_over parts able) = omega (arith, weigh_walk tests (record { list = λ part. refl; find = λ key. refl; scan = λ there stored. refl; end = refl }) p (walk_is_walk 0 parts))
   fresh_tests rules p _ = omega arith
 
   -- a call that goes on with the rest may ask no more than that
@@ -214,6 +216,18 @@ module _ {K V E : Type 0} where
       where
         out : (a : Answer K V E) → weigh tests (said removal a) ≡ 0
         out a = weigh_said tests removal a refl refl
+    asks_fewer (plan.List_keys part) rest e = (
+      (λ more. omega (arith, ap (weigh tests) e)),
+      λ listed keys is gives. omega
+          (arith, goes_tests c (map plan.Find keys ++ rest), weigh_finds {E = E} tests (λ key. refl) keys rest),
+    )
+    asks_fewer (plan.Find key) rest e = (
+      (λ more. omega (arith, ap (weigh tests) e)),
+      (λ none. omega (arith, goes_tests c rest)),
+      λ k stored some. omega arith,
+    )
+    asks_fewer (plan.Scan there stored) rest e =
+        ((λ seen. omega arith), λ unseen. omega (arith, goes_tests c rest))
     asks_fewer (plan.Reply a) rest e = omega arith
     asks_fewer item rest e = passes_on eq (Fewer (item ∷ rest)) w n c item rest tt
         (λ d. omega (arith, goes_tests c rest)) (omega (arith, ap (weigh tests) e))
@@ -362,6 +376,14 @@ module _ {K V E : Type 0} where
       (λ k old off some. as_often c _ _ refl refl),
       λ k old on some. as_often c _ _ refl refl,
     )
+    counts (plan.List_keys part) rest =
+        ((λ more. as_often c _ _ refl refl), λ listed keys is gives. goes_counts c (map plan.Find keys ++ rest))
+    counts (plan.Find key) rest = (
+      (λ more. as_often c _ _ refl refl),
+      (λ none. goes_counts c rest),
+      λ k stored some. as_often c _ _ refl refl,
+    )
+    counts (plan.Scan there stored) rest = ((λ seen. as_often c _ _ refl refl), λ unseen. goes_counts c rest)
     counts (plan.Reply a) rest = λ d e. absurd (none_some e)
     counts (plan.Notice key old cause upsert) rest =
         (λ e. goes_counts c rest, λ e. as_often c _ _ refl refl)
@@ -542,10 +564,10 @@ module _ {K V E : Type 0} (eq : K → K → Bool) where
   -- what the call is as it was started
   begun_so : (s begun : State K V E) (start : Start K V) (n : ℕ) → IsReached eq s →
       Happens eq Any s (event.Start start) (reply.Call n) begun →
-      (n ≤ begun.world.desk.last) × (begun.calls n ≡ Some (fresh_call s.world.desk.rules start))
+      (n ≤ begun.world.desk.last) × (begun.calls n ≡ Some (fresh_call s.world.table.division.parts s.world.desk.rules start))
   begun_so s begun start n h begins =
       let so = begins_so eq start n begun (was_started s begun start n h begins) in
-      subst (λ (v : State K V E). (n ≤ v.world.desk.last) × (v.calls n ≡ Some (fresh_call s.world.desk.rules start)))
+      subst (λ (v : State K V E). (n ≤ v.world.desk.last) × (v.calls n ≡ Some (fresh_call s.world.table.division.parts s.world.desk.rules start)))
       (sym so.1) (
         omega (arith, so.0),
         ap (λ m. (started s start).calls m) so.0 ∙ put_here s.calls (s.world.desk.last + 1) _,
@@ -560,8 +582,9 @@ module _ {K V E : Type 0} (eq : K → K → Bool) where
   pub tests_two : TestsAreTwo K V E eq
   tests_two s begun t start n k h begins w =
       let so = begun_so s begun start n h begins in
+      let parts : ℕ = s.world.table.division.parts in
       let rules : Rules = s.world.desk.rules in
-      let few : weigh tests (plan_of {E = E} rules start) ≤ 2 =
-      fresh_tests rules (plan_of {E = E} rules start) (fresh_plan rules start) in
+      let few : weigh tests (plan_of {E = E} parts rules start) ≤ 2 =
+      fresh_tests rules (plan_of {E = E} parts rules start) (fresh_plan parts rules start) in
       let i = way_tests n k begun t w so.0 (omega (arith, few, ap (weigh_call tests) so.1)) in
       omega (arith, i.1)

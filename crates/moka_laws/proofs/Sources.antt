@@ -1,5 +1,5 @@
 -- What a call answers, and where that comes from: its own plan, or how its owner ended.
-use Rattle.std.proofs.Common.{◌≡◌, ℕ, ◌+◌, ◌==◌, Bool, true, false, List, [], ◌∷◌, Some, None, IsSomeAnd, ◌⊎◌, inl, inr, refl, sym, ap, ◌∙◌, subst, Option}
+use Rattle.std.proofs.Common.{◌≡◌, ℕ, ◌+◌, ◌==◌, Bool, true, false, List, [], ◌∷◌, Some, None, IsSomeAnd, ◌⊎◌, inl, inr, refl, sym, ap, ◌∙◌, subst, Option, map, ◌++◌}
 use Rattle.std.proofs.lemmas.Bool.{eqb-true, eq-eqb}
 use Rattle.moka_hist.specs.State.{State, World, Call, DeskPart}
 use Rattle.moka_hist.specs.Plan.{Item, Aim, Removal, end_load}
@@ -34,12 +34,13 @@ use Rattle.moka_laws.proofs.TakesFit.{ItemTakes, AllTake}
 use Rattle.moka_laws.proofs.Kept.{IsInvariant, in_reached}
 use Rattle.moka_laws.proofs.Owning.{plan_left}
 use Rattle.moka_laws.proofs.Roles.{IsLast}
-use Rattle.moka_laws.proofs.Rules.{IsPlain, once_plain, shown_next, put_plans, loaded_plans, kept_next, chosen_next, IsFresh, Disabled, Gives_back, fresh_plan, read_key_next, told_op_next_by, IsLoad, IsComputed, unchanged_computed, put_computed}
+use Rattle.moka_laws.proofs.Rules.{IsPlain, once_plain, shown_next, put_plans, loaded_plans, kept_next, chosen_next, IsFresh, Disabled, Gives_back, fresh_plan, read_key_next, told_op_next_by, IsLoad, IsComputed, unchanged_computed, put_computed, Walks_over}
 use Rattle.moka_laws.proofs.Safe.{IsWell, well_kept}
 use Rattle.moka_laws.proofs.StepCases.{OnStep, step_cases}
 use Rattle.moka_laws.proofs.Outcomes.{Outcomes, outcomes, computes_of, passes_by}
 use Rattle.moka_hist.specs.declared.loads.Compute.{Compute}
 use Rattle.moka_hist.specs.Computing.{after_told_op, after_read_key}
+use Rattle.moka_laws.proofs.Walks.{Ends, Finds, IsWalk, Lists, Scans, walk_is_walk}
 
 same_answer : {K V E : Type 0} (a b : Answer K V E) → ◌≡◌ {A = Turn K V E} (turn.Answer a)
     (turn.Answer b) →
@@ -105,10 +106,22 @@ module _ {K V E : Type 0} where
     Ended : (with : Settled V E) (fresh : Bool) (a : Answer K V E) → c.plan ≡ end_load with a →
         said_of with fresh ≡ Some a → Source d n c a
 
+  finds_say : (owned : Option (Load K)) (keys : List K) (rest : List (Item K V E)) → PlanSays owned rest →
+      PlanSays owned (map plan.Find keys ++ rest)
+  finds_say owned [] rest q = q
+  finds_say owned (key ∷ keys) rest q = finds_say owned keys rest q
+
+  walk_says : (owned : Option (Load K)) (p : List (Item K V E)) → IsWalk p → PlanSays owned p
+  walk_says owned p Ends = tt
+  walk_says owned p (Lists part rest walk) = walk_says owned rest walk
+  walk_says owned p (Finds key rest walk) = walk_says owned rest walk
+  walk_says owned p (Scans there stored rest walk) = walk_says owned rest walk
+
   fresh_says : (owned : Option (Load K)) (rules : Rules) (p : List (Item K V E)) →
       IsFresh rules p → PlanSays owned p
   fresh_says owned rules p (Disabled a d once) = once_plain a once
   fresh_says owned rules p (Gives_back a d once) = once_plain a once
+  fresh_says owned rules p (Walks_over parts able) = walk_says owned p (walk_is_walk 0 parts)
   fresh_says owned rules p _ = tt
 
   -- what a step has to show
@@ -369,6 +382,17 @@ module _ {K V E : Type 0} where
       (λ k old off some. on w.desk n c _ (λ b h. cc) (removed_says _ removal key c old.value f.0)),
       λ k old is_on some. on w.desk n c _ (λ b h. cc) (removed_says _ removal key c old.value f.0),
     )
+    on_item (plan.List_keys part) rest e l q f t = (
+      (λ more. on w.desk n c _ (λ b h. cc) p),
+      λ listed keys is gives. passes (map plan.Find keys ++ rest) (finds_say _ keys rest q),
+    )
+    on_item (plan.Find key) rest e l q f t = (
+      (λ more. on w.desk n c _ (λ b h. cc) p),
+      (λ none. passes rest q),
+      λ k stored some. on w.desk n c _ (λ b h. cc) q,
+    )
+    on_item (plan.Scan there stored) rest e l q f t =
+        ((λ seen. on w.desk n c _ (λ b h. cc) q), λ unseen. passes rest q)
     on_item (plan.Reply a) rest e l q f t = plainly w.desk n c a _ refl refl q
     on_item item rest e l q f t = passes_by eq After w n c item rest tt
         (λ d a. subst (λ o. Leaves w.desk n c o (goes c rest)) (sym a.owning) (passes rest q)) parks
@@ -416,18 +440,18 @@ module _ {K V E : Type 0} (eq : K → K → Bool) where
 
   true_kept : IsInvariant eq IsTrue
   true_kept = record {
-    fresh = λ rules size tests has_log. record {
-      well = (well_kept eq).fresh rules size tests has_log;
+    fresh = λ division divides rules size tests has_log. record {
+      well = (well_kept eq).fresh division divides rules size tests has_log;
       says = λ n c live. absurd (none_some live);
     };
     at = λ s moment i. record { well = (well_kept eq).at s moment i.well; says = i.says };
     start = λ s start i. record {
       well = (well_kept eq).start s start i.well;
       says = λ n c live.
-          put_cases s.calls (s.world.desk.last + 1) (Some (fresh_call s.world.desk.rules start)) n (Some c)
+          put_cases s.calls (s.world.desk.last + 1) (Some (fresh_call s.world.table.division.parts s.world.desk.rules start)) n (Some c)
           (PlanSays (s.world.desk.owning n) c.plan) live
           (λ here is. subst (λ v. PlanSays (s.world.desk.owning n) (plan_left v)) is
-          (fresh_says _ s.world.desk.rules _ (fresh_plan s.world.desk.rules start)))
+          (fresh_says _ s.world.desk.rules _ (fresh_plan s.world.table.division.parts s.world.desk.rules start)))
           (λ there is. i.says n c is);
     };
     step = λ s t n reply i step. record {

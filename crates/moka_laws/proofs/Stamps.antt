@@ -8,7 +8,7 @@ use Rattle.moka_hist.specs.State.{State, World, Call, TablePart}
 use Rattle.moka_hist.specs.Plan.{Item}
 use Rattle.moka_hist.specs.Plan as plan
 use Rattle.moka_hist.specs.Step.{Access, On_table, On_desk, access_for, access_of, Gets, Step}
-use Rattle.moka_hist.specs.Tables.{Operates, by_pair, removed, taken_by, written}
+use Rattle.moka_hist.specs.Tables.{Operates, by_pair, removed, taken_by, written, begun}
 use Rattle.moka_hist.specs.declared.accesses.Got.{Got}
 use Rattle.moka_hist.specs.declared.accesses.Got.TheVariants as got
 use Rattle.moka_hist.specs.declared.accesses.Turn.{Turn}
@@ -39,6 +39,14 @@ module _ {K V : Type 0} where
   Suits n t (op.InsertOrModify key stored) = (stored.stamp ≡ n) × (times n t.committed ≡ 0)
   Suits n t (op.InsertIfAbsent key stored) = ⊥
   Suits n t _ = Unit {0}
+
+  -- it needs as much once it was begun
+  begun_suits : (n : ℕ) (t : TablePart K V) (o : TableOp K V) → Suits n t o → Suits n (begun t n o) o
+  begun_suits n t (op.Get key) f = f
+  begun_suits n t (op.InsertOrModify key stored) f = f
+  begun_suits n t (op.InsertIfAbsent key stored) f = f
+  begun_suits n t (op.RemoveIf key stamp) f = f
+  begun_suits n t (op.Keys part) f = f
 
 module _ {K V E : Type 0} where
   -- what an access needs
@@ -134,6 +142,7 @@ module _ {K V : Type 0} (eq : K → K → Bool) where
     operation_stamped (op.InsertOrModify key stored) answer new h f = subst Stamped (sym h.1)
         (written_stamped key stored f.0 f.1)
     operation_stamped (op.InsertIfAbsent key stored) answer new h f = absurd f
+    operation_stamped (op.Keys part) answer new h f = subst Stamped (sym h.5) (record { named = i.named; one = i.one })
     operation_stamped (op.RemoveIf key stamp) answer new h f = subst Stamped (sym h.1)
         (by (taken_by stamp (t.stored key)))
       where
@@ -155,6 +164,7 @@ module _ {K V : Type 0} (eq : K → K → Bool) where
             (λ there g. i.gone q p g same);
       })
   past_operation n x t i (op.InsertIfAbsent key stored) answer new h f = absurd f
+  past_operation n x t i (op.Keys part) answer new h f = subst (IsPast x) (sym h.5) (record { was = i.was; gone = i.gone })
   past_operation n x t i (op.RemoveIf key stamp) answer new h f = subst (IsPast x) (sym h.1)
       (by (taken_by stamp (t.stored key)))
     where
@@ -171,10 +181,11 @@ module _ {K V E : Type 0} (eq : K → K → Bool) where
       Gets eq n w a g new →
       Fits n w.table a → Stamped eq w.table → Stamped eq new.table
   access_stamped laws n w new (On_table o) (got.Table table.Going) gets f i = subst
-      (λ (v : World K V E). Stamped eq v.table) (sym gets.1) i
+      (λ (v : World K V E). Stamped eq v.table) (sym gets.1) (record { named = i.named; one = i.one })
   access_stamped laws n w new (On_table o) (got.Table (table.Decided answer)) gets f i =
       subst (λ (v : World K V E). Stamped eq v.table) (sym gets.2)
-      (operation_stamped eq laws n w.table i o answer gets.0 gets.1 f)
+      (operation_stamped eq laws n (begun w.table n o) (record { named = i.named; one = i.one }) o answer gets.0 gets.1
+      (begun_suits n w.table o f))
   access_stamped laws n w new (On_desk made) (got.Desk g) gets f i = subst
       (λ (v : World K V E). Stamped eq v.table) (sym gets.1) i
   access_stamped laws n w new (On_table o) (got.Desk g) gets f i = absurd gets
@@ -188,8 +199,8 @@ module _ {K V E : Type 0} (eq : K → K → Bool) where
 
   pub stamped_kept : IsEquivalence eq → IsInvariant eq IsStamped
   stamped_kept laws = record {
-    fresh = λ rules size tests has_log. record {
-      balanced = (balanced_kept eq).fresh rules size tests has_log;
+    fresh = λ division divides rules size tests has_log. record {
+      balanced = (balanced_kept eq).fresh division divides rules size tests has_log;
       stamped = record {
         named = λ q p e. absurd (none_some e);
         one = λ q r p o e f same. absurd
@@ -243,10 +254,11 @@ module _ {K V E : Type 0} (eq : K → K → Bool) where
       Fits n w.table a → IsPast eq x w.table →
       IsPast eq x new.table
   past_access n x w new (On_table o) (got.Table table.Going) gets f i = subst
-      (λ (v : World K V E). IsPast eq x v.table) (sym gets.1) i
+      (λ (v : World K V E). IsPast eq x v.table) (sym gets.1) (record { was = i.was; gone = i.gone })
   past_access n x w new (On_table o) (got.Table (table.Decided answer)) gets f i =
       subst (λ (v : World K V E). IsPast eq x v.table) (sym gets.2)
-      (past_operation eq n x w.table i o answer gets.0 gets.1 f)
+      (past_operation eq n x (begun w.table n o) (record { was = i.was; gone = i.gone }) o answer gets.0 gets.1
+      (begun_suits n w.table o f))
   past_access n x w new (On_desk made) (got.Desk g) gets f i = subst
       (λ (v : World K V E). IsPast eq x v.table) (sym gets.1) i
   past_access n x w new (On_table o) (got.Desk g) gets f i = absurd gets

@@ -1,6 +1,6 @@
 -- Under a listener the chosen record stands under its key until it is taken out: the key's lock is
 -- held.
-use Rattle.std.proofs.Common.{◌≡◌, ◌⊎◌, inl, inr, ℕ, ◌+◌, ◌==◌, Bool, true, false, cond, List, [], ◌∷◌, Option, Some, None, refl, sym, ap, ◌∙◌, subst, arith}
+use Rattle.std.proofs.Common.{◌≡◌, ◌⊎◌, inl, inr, ℕ, ◌+◌, ◌==◌, Bool, true, false, cond, List, [], ◌∷◌, Option, Some, None, refl, sym, ap, ◌∙◌, subst, arith, map, ◌++◌}
 use Rattle.std.proofs.lemmas.Bool.{eqb-true}
 use Rattle.std.specs.Cmp.{IsEquivalence}
 use Rattle.std.specs.Prelude.{IsSomeAnd}
@@ -13,7 +13,7 @@ use Rattle.moka_hist.specs.Next.{Next, goes}
 use Rattle.moka_hist.specs.Looking.{finds_pair, hits, keeps, misses}
 use Rattle.moka_hist.specs.Loading.{after_read, after_told}
 use Rattle.moka_hist.specs.Step.{Access, On_table, On_desk, access_for, access_of, Gets, Step}
-use Rattle.moka_hist.specs.Tables.{Operates, by_pair, removed, taken_by, written}
+use Rattle.moka_hist.specs.Tables.{Operates, by_pair, removed, taken_by, written, begun}
 use Rattle.moka_hist.specs.Run.{fresh_call}
 use Rattle.moka_hist.specs.declared.accesses.Got.{Got}
 use Rattle.moka_hist.specs.declared.accesses.Got.TheVariants as got
@@ -41,7 +41,7 @@ use Rattle.moka_laws.proofs.Weights.{weigh, weigh_call, weigh_goes, weigh_said}
 use Rattle.moka_laws.proofs.Locking.{IsLocking, Inside, key_locked}
 use Rattle.moka_laws.proofs.Ordering.{one_lock}
 use Rattle.moka_laws.proofs.Owning.{plan_left}
-use Rattle.moka_laws.proofs.Rules.{abort_next, IsFresh, Takes_out, Locks_and_takes_out, fresh_plan, put_plans, chosen_by, kept_next, loaded_plans, put_plans, read_key_next, told_op_next}
+use Rattle.moka_laws.proofs.Rules.{abort_next, IsFresh, Takes_out, Locks_and_takes_out, fresh_plan, put_plans, chosen_by, kept_next, loaded_plans, put_plans, read_key_next, told_op_next, Walks_over}
 use Rattle.moka_laws.proofs.SoundReached.{IsSound, sound_kept}
 use Rattle.moka_laws.proofs.Steady.{step_calls, step_rules}
 use Rattle.moka_laws.proofs.Kept.{IsInvariant, in_reached}
@@ -49,6 +49,7 @@ use Rattle.moka_laws.proofs.StepCases.{OnStep, step_cases}
 use Rattle.moka_laws.proofs.Outcomes.{Outcomes, outcomes, passes_on}
 use Rattle.moka_hist.specs.declared.loads.Compute.{Compute}
 use Rattle.moka_hist.specs.Computing.{after_told_op, after_read_key}
+use Rattle.moka_laws.proofs.Walks.{weigh_finds, weigh_walk, walk_is_walk}
 
 -- what is stored by key
 abbrev Map : Type 0 → Type 0 → Type 0
@@ -66,6 +67,7 @@ module _ {K V : Type 0} (eq : K → K → Bool) where
   Alters (op.InsertOrModify key stored) q = eq key q ≡ true
   Alters (op.InsertIfAbsent key stored) q = eq key q ≡ true
   Alters (op.RemoveIf key stamp) q = eq key q ≡ true
+  Alters (op.Keys part) q = ⊥
 
   put_leaves : (f : Map K V) (key : K) (v : Option (K × Stored V)) (q : K) →
       (eq key q ≡ true → ⊥) → put_key eq f key v q ≡ f q
@@ -90,6 +92,8 @@ module _ {K V : Type 0} (eq : K → K → Bool) where
           t.stored q
       by None = put_leaves t.stored key (Some (key, stored)) q never
       by (Some pair) = refl
+  operation_leaves n t (op.Keys part) answer new h q never = ap
+      (λ (v : TablePart K V). v.stored q) h.5
   operation_leaves n t (op.RemoveIf key stamp) answer new h q never =
       ap (λ (v : TablePart K V). v.stored q) h.1 ∙ by (taken_by stamp (t.stored key))
     where
@@ -283,6 +287,17 @@ module _ {K V E : Type 0} where
       where
         out : (a : Answer K V E) → weigh chosen (said removal a) ≡ 0
         out a = weigh_said chosen removal a refl refl
+    on_calm (plan.List_keys part) rest e p q i = (
+      λ more. inl p,
+      λ listed keys is gives. goes_on _ (map plan.Find keys ++ rest) (omega (arith, q, weigh_finds {E = E} chosen (λ key. refl) keys rest)),
+    )
+    on_calm (plan.Find key) rest e p q i = (
+      λ more. inl p,
+      λ none. goes_on _ rest (omega (arith, q)),
+      λ there seen some. inl (omega (arith, q)),
+    )
+    on_calm (plan.Scan there found) rest e p q i =
+        (λ seen. inl (omega (arith, q)), λ unseen. goes_on _ rest (omega (arith, q)))
     on_calm (plan.Reply a) rest e p q i = tt
     on_calm item rest e p q i =
         passes_on eq After w n c item rest tt (λ d. goes_on _ rest (omega (arith, q))) (inl p)
@@ -329,7 +344,7 @@ module _ {K V E : Type 0} where
         (λ (v : World K V E). v.table.stored q) gets.1
     access_leaves n w new (On_table o) (got.Table (table.Decided answer)) gets q never =
         ap (λ (v : World K V E). v.table.stored q) gets.2 ∙
-        operation_leaves eq n w.table o answer gets.0 gets.1 q never
+        operation_leaves eq n (begun w.table n o) o answer gets.0 gets.1 q never
     access_leaves n w new (On_desk made) (got.Desk f) gets q never = ap
         (λ (v : World K V E). v.table.stored q) gets.1
     access_leaves n w new (On_table o) (got.Desk f) gets q never = absurd gets
@@ -375,6 +390,7 @@ module _ {K V E : Type 0} where
   form_calm rules p (Takes_out (plan.To_evict_chosen stamp cause) key off started) = absurd started
   form_calm rules p (Locks_and_takes_out (plan.To_evict_chosen stamp cause) key on started) =
       absurd started
+  form_calm rules p (Walks_over parts able) = weigh_walk chosen (record { list = λ part. refl; find = λ key. refl; scan = λ there stored. refl; end = refl }) p (walk_is_walk 0 parts)
   form_calm rules p _ = refl
 
 -- ---- of a state
@@ -442,8 +458,8 @@ module _ {K V E : Type 0} (eq : K → K → Bool) (laws : IsEquivalence eq) wher
 
   standing_kept : IsInvariant eq IsStanding
   standing_kept = record {
-    fresh = λ rules size tests has_log. record {
-      sound = (sound_kept eq laws).fresh rules size tests has_log;
+    fresh = λ division divides rules size tests has_log. record {
+      sound = (sound_kept eq laws).fresh division divides rules size tests has_log;
       stands = λ on n c live. absurd (none_some live);
     };
     at = λ s moment i. record {
@@ -454,10 +470,10 @@ module _ {K V E : Type 0} (eq : K → K → Bool) (laws : IsEquivalence eq) wher
     start = λ s start i. record {
       sound = (sound_kept eq laws).start s start i.sound;
       stands = λ on n c live.
-          put_cases s.calls (s.world.desk.last + 1) (Some (fresh_call s.world.desk.rules start)) n
+          put_cases s.calls (s.world.desk.last + 1) (Some (fresh_call s.world.table.division.parts s.world.desk.rules start)) n
           (Some c) (Stands s.world.table.stored c.plan) live
           (λ here is. subst (StandsIf s.world.table.stored) is
-          (inl (form_calm s.world.desk.rules _ (fresh_plan s.world.desk.rules start)))) (λ there is. i.stands on n c is);
+          (inl (form_calm s.world.desk.rules _ (fresh_plan s.world.table.division.parts s.world.desk.rules start)))) (λ there is. i.stands on n c is);
     };
     step = standing_step;
     tell = λ s n given asked i. record {

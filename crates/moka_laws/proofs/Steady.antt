@@ -3,7 +3,7 @@
 use Rattle.std.proofs.Common.{◌≡◌, ℕ, zero, suc, ◌==◌, Bool, true, false, cond, [], ◌∷◌, ◌++◌, Option, Some, None, is_some, refl, sym, ap, ◌∙◌, subst, arith}
 use Rattle.moka_hist.specs.Finite.{times}
 use Rattle.moka_hist.specs.State.{State, World, DeskPart, TablePart}
-use Rattle.moka_hist.specs.Tables.{Operates, by_pair, removed, taken_by, written}
+use Rattle.moka_hist.specs.Tables.{Operates, begun, by_pair, removed, taken_by, written}
 use Rattle.moka_hist.specs.Visits.{claimed, claimed_alone, is_seen, is_unlocked_for, judged, locked_by, makes, read, settlement_for}
 use Rattle.moka_hist.specs.Step.{Access, On_table, On_desk, access_of, Gets, Step}
 use Rattle.moka_hist.specs.Run.{Goings}
@@ -61,6 +61,7 @@ module _ {K V : Type 0} (eq : K → K → Bool) where
       by (op.RemoveIf key stamp) h =
           ap (λ (v : TablePart K V). times x v.committed) h.1 ∙
           by_commits (taken_by stamp (t.stored key)) x t (removed eq n t key) more
+      by (op.Keys part) h = ap (λ (v : TablePart K V). times x v.committed) h.5
 
 module _ {K V E : Type 0} where
   -- what is kept of accesses after a visit and an access: only one that judges changes that
@@ -134,7 +135,7 @@ module _ {K V E : Type 0} (eq : K → K → Bool) where
       ap (λ (v : World K V E). times x v.table.committed) gets.1
   access_commits n x other w new (On_table o) (got.Table (table.Decided answer)) gets =
       ap (λ (v : World K V E). times x v.table.committed) gets.2 ∙
-      operation_commits eq n x other w.table gets.0 o answer gets.1
+      operation_commits eq n x other (begun w.table n o) gets.0 o answer gets.1
   access_commits n x other w new (On_desk made) (got.Desk f) gets = ap
       (λ (v : World K V E). times x v.table.committed) gets.1
   access_commits n x other w new (On_table o) (got.Desk f) gets = absurd gets

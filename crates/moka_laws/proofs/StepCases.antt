@@ -3,7 +3,7 @@ use Rattle.std.proofs.Common.{ℕ, ◌<◌, Bool, List, [], ◌∷◌, sym, subs
 use Rattle.moka_hist.specs.State.{State, Call, TablePart, World}
 use Rattle.moka_hist.specs.Plan.{Item}
 use Rattle.moka_hist.specs.Visits.{finds, gave_back, makes}
-use Rattle.moka_hist.specs.Tables.{Operates}
+use Rattle.moka_hist.specs.Tables.{Operates, begun}
 use Rattle.moka_hist.specs.Bound.{times_of, stayed, decided_by, most_undecided}
 use Rattle.moka_hist.specs.Next.{Next, waits}
 use Rattle.moka_hist.specs.Step.{Access, On_table, On_desk, access_for, access_of, after_table, after_visit, next_of, Gets, state_after, Step}
@@ -19,8 +19,8 @@ module _ {K V E : Type 0} (eq : K → K → Bool) where
   -- M holds of all that the access may make of the world and of the call
   abbrev pub OnAccess : (World K V E → Next K V E → Type 0) → World K V E → ℕ → Call K V E → Item K V E → List (Item K V E) → Access K V E → Type 0
   OnAccess M w n c item rest (On_table op) =
-      (times_of w.stay n < most_undecided w.table → M (record w { stay = stayed w.stay n }) (after_table n c item rest table.Going)) ×
-      ((answer : TableAnswer K V) (t : TablePart K V) → Operates eq n w.table op answer t →
+      (times_of w.stay n < most_undecided w.table → M (record w { table = begun w.table n op; stay = stayed w.stay n }) (after_table n c item rest table.Going)) ×
+      ((answer : TableAnswer K V) (t : TablePart K V) → Operates eq n (begun w.table n op) op answer t →
       M (record w { table = t; stay = decided_by n }) (after_table n c item rest (table.Decided answer)))
   OnAccess M w n c item rest (On_desk made) =
       M (record w { desk = makes eq w.desk made }) (after_visit c item rest (finds w.desk made))

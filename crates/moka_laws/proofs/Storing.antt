@@ -1,5 +1,5 @@
 -- A call whose answer says that it has stored a value has committed its write.
-use Rattle.std.proofs.Common.{◌≡◌, ℕ, ◌+◌, ◌≤◌, ◌==◌, Bool, true, false, cond, List, [], ◌∷◌, ◌++◌, Some, None, refl, sym, ap, ◌∙◌, subst, arith, Option}
+use Rattle.std.proofs.Common.{◌≡◌, ℕ, ◌+◌, ◌≤◌, ◌==◌, Bool, true, false, cond, List, [], ◌∷◌, ◌++◌, Some, None, refl, sym, ap, ◌∙◌, subst, arith, Option, map}
 use Rattle.std.proofs.lemmas.Bool.{eqb-true, false≢true}
 use Rattle.moka_hist.specs.Plan.{or_insert_plan, seek}
 use Rattle.moka_hist.specs.Finite.{times}
@@ -45,6 +45,7 @@ use Rattle.moka_laws.proofs.StepCases.{OnStep, step_cases}
 use Rattle.moka_laws.proofs.Outcomes.{Outcomes, outcomes, passes_on}
 use Rattle.moka_hist.specs.declared.loads.Compute.{Compute}
 use Rattle.moka_hist.specs.Computing.{after_told_op, after_read_key}
+use Rattle.moka_laws.proofs.Walks.{weigh_finds}
 
 -- 1 where the answer of a call that was started for this says that it has stored a value
 abbrev stored : {K V E : Type 0} → Start K V → Answer K V E → ℕ
@@ -447,6 +448,21 @@ module _ {K V E : Type 0} (begun : Start K V) where
     on_item (plan.Out plan.To_remove key) rest l p q = absurd (omega (arith, q.plain))
     on_item (plan.Out (plan.To_evict_chosen stamp cause) key) rest l p q =
         absurd (omega (arith, q.plain))
+    on_item (plan.List_keys part) rest l p q = (
+      (λ more. record { left = p.says; plain = p.plain; now = λ b e. cc }),
+      λ listed keys is gives. goes_says _ c (map plan.Find keys ++ rest)
+          (omega (arith, q.says, weigh_finds {E = E} says (λ key. refl) keys rest, weigh_finds {E = E} makes (λ key. refl) keys rest))
+          (omega (arith, q.plain, weigh_finds {E = E} takes (λ key. refl) keys rest)),
+    )
+    on_item (plan.Find key) rest l p q = (
+      (λ more. record { left = p.says; plain = p.plain; now = λ b e. cc }),
+      (λ none. goes_says _ c rest (omega (arith, q.says)) (omega (arith, q.plain))),
+      λ k stored some. record { left = omega (arith, q.says); plain = omega (arith, q.plain); now = λ b e. cc },
+    )
+    on_item (plan.Scan there stored) rest l p q = (
+      (λ seen. record { left = omega (arith, q.says); plain = omega (arith, q.plain); now = λ b e. cc }),
+      λ unseen. goes_says _ c rest (omega (arith, q.says)) (omega (arith, q.plain)),
+    )
     on_item (plan.Reply a) rest l p q =
         let alone = subst (λ v. weigh says (plan.Reply a ∷ v) ≤ weigh makes
         (plan.Reply a ∷ v) + times n w.table.committed) l q.says in
@@ -578,28 +594,28 @@ module _ {K V E : Type 0} (eq : K → K → Bool) where
       (record { says = omega arith; plain = refl })
 
   -- what an insert or a load is to do on a cache that is not disabled
-  fresh_stores : (rules : Rules) (s : Start K V) (a : Answer K V E) → is_disabled rules ≡ false →
-      says_stored s a ≡ true → Stores {E = E} s 0 (plan_of rules s)
-  fresh_stores rules (start.Insert key value) a able e =
+  fresh_stores : (parts : ℕ) (rules : Rules) (s : Start K V) (a : Answer K V E) → is_disabled rules ≡ false →
+      says_stored s a ≡ true → Stores {E = E} s 0 (plan_of parts rules s)
+  fresh_stores parts rules (start.Insert key value) a able e =
       subst (λ b. Stores {E = E} (start.Insert key value) 0 (insert_plan b rules key value))
       (sym able)
       (put_plans (Stores {E = E} (start.Insert key value) 0) rules key value (plan.Reply reply.Done ∷ [])
       (record { says = omega arith; plain = refl })
       (record { says = omega arith; plain = refl }))
-  fresh_stores rules (start.GetWith key replace) a able e =
+  fresh_stores parts rules (start.GetWith key replace) a able e =
       load_stores (start.GetWith key replace) rules (seek kind.GetWith key replace) able
-  fresh_stores rules (start.Optional key) a able e =
+  fresh_stores parts rules (start.Optional key) a able e =
       load_stores (start.Optional key) rules (seek kind.Optional key None) able
-  fresh_stores rules (start.Try key) a able e =
+  fresh_stores parts rules (start.Try key) a able e =
       load_stores (start.Try key) rules (seek kind.Try key None) able
-  fresh_stores rules (start.OrInsert key value) a able e =
+  fresh_stores parts rules (start.OrInsert key value) a able e =
       subst (λ b. Stores {E = E} (start.OrInsert key value) 0 (or_insert_plan b key value)) (sym able)
       (record { says = omega arith; plain = refl })
-  fresh_stores rules (start.Compute key) a able e = record { says = omega arith; plain = refl }
-  fresh_stores rules (start.TryCompute key) a able e = record { says = omega arith; plain = refl }
-  fresh_stores rules (start.ComputeAlone key) a able e = record { says = omega arith; plain = refl }
-  fresh_stores rules (start.Upsert key) a able e = record { says = omega arith; plain = refl }
-  fresh_stores rules _ a able e = absurd (false≢true e)
+  fresh_stores parts rules (start.Compute key) a able e = record { says = omega arith; plain = refl }
+  fresh_stores parts rules (start.TryCompute key) a able e = record { says = omega arith; plain = refl }
+  fresh_stores parts rules (start.ComputeAlone key) a able e = record { says = omega arith; plain = refl }
+  fresh_stores parts rules (start.Upsert key) a able e = record { says = omega arith; plain = refl }
+  fresh_stores parts rules _ a able e = absurd (false≢true e)
 
   pub stored_committed : StoredIsCommitted K V E eq
   stored_committed s t start n a w able step says =
@@ -625,9 +641,9 @@ module _ {K V E : Type 0} (eq : K → K → Bool) where
         able = was_able;
         born = omega arith;
         says = λ c live.
-            let is : fresh_call w.before.world.desk.rules start ≡ c = some_same
+            let is : fresh_call w.before.world.table.division.parts w.before.world.desk.rules start ≡ c = some_same
             (sym (put_here w.before.calls (w.before.world.desk.last + 1) _) ∙ live) in
-            let f = fresh_stores w.before.world.desk.rules start a was_able says in
+            let f = fresh_stores w.before.world.table.division.parts w.before.world.desk.rules start a was_able says in
             subst (λ (d : Call K V E). Stores start
             (times (w.before.world.desk.last + 1) w.before.world.table.committed) d.plan) is
             (record { says = omega (arith, f.says); plain = f.plain });

@@ -1,5 +1,5 @@
 -- Loads' items are no compute's, computes ask as computes do, and what was told fits the ask.
-use Rattle.std.proofs.Common.{◌≡◌, ℕ, ◌+◌, ◌==◌, Bool, true, false, cond, List, [], ◌∷◌, Option, Some, None, refl, sym, ap, ◌∙◌, subst}
+use Rattle.std.proofs.Common.{◌≡◌, ℕ, ◌+◌, ◌==◌, Bool, true, false, cond, List, [], ◌∷◌, Option, Some, None, refl, sym, ap, ◌∙◌, subst, map, ◌++◌}
 use Rattle.std.proofs.lemmas.Bool.{eqb-true, false≢true}
 use Rattle.std.specs.Option.{option_map_or}
 use Rattle.moka_hist.specs.Dropping.{dropped}
@@ -33,12 +33,13 @@ use Rattle.moka_hist.specs.declared.visits.Takes.TheVariants as takes
 use Rattle.moka_hist.specs.declared.visits.Found.TheVariants as found
 use Rattle.moka_hist.specs.declared.accesses.Turn.{Turn}
 use Rattle.moka_hist.specs.declared.accesses.Turn.TheVariants as turn
-use Rattle.moka_laws.proofs.Rules.{abort_next, put_plans, loaded_plans, kept_next, chosen_next, read_key_next, told_op_next_by, IsLost, IsLoad, IsComputes, IsFresh, Loads, Owns, Computes, Disabled, fresh_plan}
+use Rattle.moka_laws.proofs.Rules.{abort_next, put_plans, loaded_plans, kept_next, chosen_next, read_key_next, told_op_next_by, IsLost, IsLoad, IsComputes, IsFresh, Loads, Owns, Computes, Disabled, fresh_plan, Walks_over}
 use Rattle.moka_laws.proofs.Counting.{some_same, none_some, put_cases, put_here, put_there}
 use Rattle.moka_laws.proofs.Kept.{IsInvariant, in_reached}
 use Rattle.moka_laws.proofs.Owning.{plan_left}
 use Rattle.moka_laws.proofs.StepCases.{OnStep, step_cases}
 use Rattle.moka_laws.proofs.Outcomes.{Outcomes, outcomes, passes_by}
+use Rattle.moka_laws.proofs.Walks.{IsWalk, Ends, Lists, Finds, Scans, walk_is_walk}
 
 -- an open ask takes this, and what was told to a closed one is what that takes
 abbrev pub AskFits : Takes → Option Takes → Type 0
@@ -201,12 +202,24 @@ module _ {K V E : Type 0} where
     tells_take tells (plan.Ask_op compute pair ∷ rest) e q = (q.0, tells_take tells rest e q.1)
     tells_take tells (_ ∷ rest) e q = (tt, tells_take tells rest e q.1)
 
+  keys_take : (asked : Option Takes) (given : Option (Told V E)) (keys : List K) (rest : List (Item K V E)) → AllTake asked given rest →
+      AllTake asked given (map plan.Find keys ++ rest)
+  keys_take asked given [] rest q = q
+  keys_take asked given (key ∷ keys) rest q = (tt, keys_take asked given keys rest q)
+
+  walk_take : (asked : Option Takes) (given : Option (Told V E)) (p : List (Item K V E)) → IsWalk p → AllTake asked given p
+  walk_take asked given p Ends = (tt, tt)
+  walk_take asked given p (Lists part rest walk) = (tt, walk_take asked given rest walk)
+  walk_take asked given p (Finds key rest walk) = (tt, walk_take asked given rest walk)
+  walk_take asked given p (Scans there stored rest walk) = (tt, walk_take asked given rest walk)
+
   fresh_take : (asked : Option Takes) (given : Option (Told V E)) (rules : Rules)
       (p : List (Item K V E)) → IsFresh rules p → AllTake asked given p
   fresh_take asked given rules p (Disabled a d plain) = (tt, tt)
   fresh_take asked given rules p (Loads sought d one) = (tt, (one, tt))
   fresh_take asked given rules p (Owns sought d one) = (tt, (one, tt))
   fresh_take asked given rules p (Computes compute one) = (one, tt)
+  fresh_take asked given rules p (Walks_over parts able) = walk_take asked given p (walk_is_walk 0 parts)
   fresh_take asked given rules p _ = search
 
   -- ---- a step
@@ -336,6 +349,17 @@ module _ {K V E : Type 0} where
       (λ k old off some. as_was refl refl (tt, said_take _ _ removal _)),
       λ k old on some. as_was refl refl (tt, (tt, (tt, said_take _ _ removal _))),
     )
+    on_item (plan.List_keys part) rest q = (
+      (λ more. as_was refl refl p),
+      λ listed keys e gives. goes_on (map plan.Find keys ++ rest) refl refl (keys_take _ _ keys rest q.1),
+    )
+    on_item (plan.Find key) rest q = (
+      (λ more. as_was refl refl p),
+      (λ none. goes_on rest refl refl q.1),
+      λ k stored some. as_was refl refl (tt, q.1),
+    )
+    on_item (plan.Scan there stored) rest q =
+        ((λ seen. as_was refl refl q.1), λ unseen. goes_on rest refl refl q.1)
     on_item (plan.Reply a) rest q = as_was refl refl tt
     on_item (plan.Settle with) rest q = goes_on rest refl refl q.1
     on_item item rest q = passes_by eq (Leaves w n) w n c item rest tt
@@ -383,18 +407,18 @@ module _ {K V E : Type 0} (eq : K → K → Bool) where
   taking_start s start i = record {
     take = λ n c live.
         let new : ℕ = s.world.desk.last + 1 in
-        put_cases s.calls new (Some (fresh_call s.world.desk.rules start)) n (Some c)
+        put_cases s.calls new (Some (fresh_call s.world.table.division.parts s.world.desk.rules start)) n (Some c)
         (AllTake (s.world.desk.asks n) (s.world.desk.told n) c.plan) live
         (λ here is. subst
         (λ (d : Call K V E). AllTake (s.world.desk.asks n) (s.world.desk.told n) d.plan)
         (some_same is)
-        (fresh_take _ _ s.world.desk.rules _ (fresh_plan s.world.desk.rules start)))
+        (fresh_take _ _ s.world.desk.rules _ (fresh_plan s.world.table.division.parts s.world.desk.rules start)))
         (λ there is. i.take n c is);
   }
 
   pub taking_kept : IsInvariant eq (IsTaking {K = K} {V = V} {E = E})
   taking_kept = record {
-    fresh = λ rules size tests has_log. record { take = λ n c live. absurd (none_some live) };
+    fresh = λ division divides rules size tests has_log. record { take = λ n c live. absurd (none_some live) };
     at = λ s moment i. record { take = i.take };
     start = taking_start;
     step = taking_step;

@@ -1,5 +1,5 @@
 -- The turn is with the one call that applies the log.
-use Rattle.std.proofs.Common.{◌≡◌, ◌≢◌, ◌↔◌, ℕ, ◌+◌, ◌==◌, Bool, true, false, List, [], ◌∷◌, Option, Some, None, refl, sym, ap, ◌∙◌, subst, arith}
+use Rattle.std.proofs.Common.{◌≡◌, ◌≢◌, ◌↔◌, ℕ, ◌+◌, ◌==◌, Bool, true, false, List, [], ◌∷◌, Option, Some, None, refl, sym, ap, ◌∙◌, subst, arith, map, ◌++◌}
 use Rattle.std.proofs.lemmas.Bool.{eqb-true, false≢true}
 use Rattle.std.specs.Option.{option_map_or}
 use Rattle.moka_hist.specs.Finite.{put_at}
@@ -26,7 +26,7 @@ use Rattle.moka_hist.specs.declared.accesses.Turn.{Turn}
 use Rattle.moka_laws.specs.Missing.{TurnIsHeld, AppliesLog, IsApplying}
 use Rattle.moka_hist.specs.Writing.{cause_handed, nothing_answer, removed_answer}
 use Rattle.moka_hist.specs.declared.writes.Write.TheVariants.{Remove}
-use Rattle.moka_laws.proofs.Rules.{abort_next, said_next, put_plans, loaded_plans, kept_next, chosen_by, IsFresh, Disabled, fresh_plan, read_key_next, told_op_next}
+use Rattle.moka_laws.proofs.Rules.{abort_next, said_next, put_plans, loaded_plans, kept_next, chosen_by, IsFresh, Disabled, fresh_plan, read_key_next, told_op_next, Walks_over}
 use Rattle.moka_laws.proofs.Counting.{none_some, some_same, put_here, put_there, differ_not, other_number}
 use Rattle.moka_laws.proofs.Weights.{weigh}
 use Rattle.moka_laws.proofs.Balance.{IsBalanced}
@@ -37,6 +37,7 @@ use Rattle.moka_laws.proofs.StepCases.{OnStep, step_cases}
 use Rattle.moka_laws.proofs.Outcomes.{Outcomes, outcomes}
 use Rattle.moka_hist.specs.declared.loads.Compute.{Compute}
 use Rattle.moka_hist.specs.Computing.{after_told_op, after_read_key}
+use Rattle.moka_laws.proofs.Walks.{weigh_walk, weigh_finds, walk_is_walk}
 
 module _ {K V E : Type 0} where
   -- the item is one of a turn
@@ -166,6 +167,7 @@ module _ {K V E : Type 0} where
 
   form_calm : (rules : Rules) (p : List (Item K V E)) → IsFresh rules p → weigh of_turn p ≡ 0
   form_calm rules p (Disabled a d plain) = refl
+  form_calm rules p (Walks_over parts able) = weigh_walk of_turn (record { list = λ part. refl; find = λ key. refl; scan = λ there stored. refl; end = refl }) p (walk_is_walk 0 parts)
   form_calm rules p _ = refl
 
   -- ---- a step
@@ -305,6 +307,20 @@ module _ {K V E : Type 0} where
           (λ k old off some. calm _ n (said_next (λ v. weigh of_turn (plan_left v.left) ≡ 0) c (λ q. plan.Post (Remove n old.stamp) ∷ q) removal (removed_answer removal old.value) refl refl) q.has),
           λ k old on some. calm _ n (said_next (λ v. weigh of_turn (plan_left v.left) ≡ 0) c (λ q. plan.Notice key old (cause_handed removal) false ∷ plan.Unlock true ∷ plan.Post (Remove n old.stamp) ∷ q) removal (removed_answer removal old.value) refl refl) q.has,
         )
+    on_item (plan.List_keys part) rest e q =
+        let c_calm : weigh of_turn c.plan ≡ 0 = omega (arith, ap (weigh of_turn) e, q.first) in (
+          (λ more. calm _ n c_calm q.has),
+          λ listed keys is gives. calm _ n
+              (goes_calm c (map plan.Find keys ++ rest) (weigh_finds of_turn (λ key. refl) keys rest ∙ q.first)) q.has,
+        )
+    on_item (plan.Find key) rest e q =
+        let c_calm : weigh of_turn c.plan ≡ 0 = omega (arith, ap (weigh of_turn) e, q.first) in (
+          (λ more. calm _ n c_calm q.has),
+          (λ none. calm _ n (goes_calm c rest q.first) q.has),
+          λ k stored some. calm _ n (omega (arith, q.first)) q.has,
+        )
+    on_item (plan.Scan there stored) rest e q =
+        ((λ seen. calm _ n q.first q.has), λ unseen. calm _ n (goes_calm c rest q.first) q.has)
     on_item (plan.Reply answer) rest e q = calm _ n refl q.has
     on_item _ rest e q = calm _ n (goes_calm c rest q.first) q.has
 
@@ -352,8 +368,8 @@ module _ {K V E : Type 0} (eq : K → K → Bool) where
 
   pub turning_kept : IsInvariant eq (IsTurning {K = K} {V = V} {E = E})
   turning_kept = record {
-    fresh = λ rules size tests has_log. record {
-      balanced = (balanced_kept eq).fresh rules size tests has_log;
+    fresh = λ division divides rules size tests has_log. record {
+      balanced = (balanced_kept eq).fresh division divides rules size tests has_log;
       fits = λ n. record { first = tt; has = λ e. absurd (none_some e); applies = λ t. absurd t };
       mid = λ n t. t;
     };
@@ -361,8 +377,8 @@ module _ {K V E : Type 0} (eq : K → K → Bool) where
     start = λ s start i.
         let new : ℕ = s.world.desk.last + 1 in
         let free : plan_left (s.calls new) ≡ [] = ap plan_left (next_free s i.balanced) in
-        turns s new _ (Some (fresh_call s.world.desk.rules start)) i
-        (calm s.world.desk.turn new (form_calm s.world.desk.rules _ (fresh_plan s.world.desk.rules start)) (λ e. subst InTurn free ((i.fits new).has e)))
+        turns s new _ (Some (fresh_call s.world.table.division.parts s.world.desk.rules start)) i
+        (calm s.world.desk.turn new (form_calm s.world.desk.rules _ (fresh_plan s.world.table.division.parts s.world.desk.rules start)) (λ e. subst InTurn free ((i.fits new).has e)))
         ((balanced_kept eq).start s start i.balanced);
     step = turning_step;
     tell = λ s n given asked i. record { balanced = (balanced_kept eq).tell s n given asked i.balanced; fits = i.fits; mid = i.mid };

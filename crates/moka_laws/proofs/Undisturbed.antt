@@ -234,22 +234,22 @@ module _ {K V E : Type 0} (eq : K → K → Bool) (key q : K) (value : V) (same 
 
   found : (s t u : State K V E) (n : ℕ) (a : Answer K V E) →
       is_disabled s.world.desk.rules ≡ false →
-      s.calls n ≡ Some (fresh_call s.world.desk.rules (start.Insert key value)) →
+      s.calls n ≡ Some (fresh_call s.world.table.division.parts s.world.desk.rules (start.Insert key value)) →
       AnswersAlone eq s n answer.Done t →
       (got : AnswersAlone eq (started t (start.Get q)) (t.world.desk.last + 1) a u) →
       Shows got.mid.world → a ≡ answer.Found (Some value)
   found s t u n a able live inserted got shows =
       let has : Has q value t.world.table.stored =
       in_end Inserts Inserted eq n (λ w c p. inserts n w c c.plan refl p) s t answer.Done
-      (fresh_call s.world.desk.rules (start.Insert key value), live, early) inserted in
+      (fresh_call s.world.table.division.parts s.world.desk.rules (start.Insert key value), live, early) inserted in
       in_end Looks Finds eq (t.world.desk.last + 1) (λ w c p. looks (t.world.desk.last + 1) w c c.plan refl p) (started t (start.Get q)) u a (
-        fresh_call t.world.desk.rules (start.Get q),
+        fresh_call t.world.table.division.parts t.world.desk.rules (start.Get q),
         put_here t.calls (t.world.desk.last + 1)
-            (Some (fresh_call t.world.desk.rules (start.Get q))),
+            (Some (fresh_call t.world.table.division.parts t.world.desk.rules (start.Get q))),
         seeking has,
       ) got shows
     where
-      early : Inserts s.world.table.stored (plan_of {E = E} s.world.desk.rules (start.Insert key value))
+      early : Inserts s.world.table.stored (plan_of {E = E} s.world.table.division.parts s.world.desk.rules (start.Insert key value))
       early = subst (λ b. Inserts s.world.table.stored (insert_plan {E = E} b s.world.desk.rules key value))
           (sym able)
           (put_plans (Inserts s.world.table.stored) s.world.desk.rules key value
@@ -263,7 +263,7 @@ module _ {K V E : Type 0} (eq : K → K → Bool) (key q : K) (value : V) (same 
           goings_rules eq Any inserted.going s inserted.mid n inserted.goes
 
       seeking : Has q value t.world.table.stored → Looks t.world.table.stored
-          (plan_of {E = E} t.world.desk.rules (start.Get q))
+          (plan_of {E = E} t.world.table.division.parts t.world.desk.rules (start.Get q))
       seeking has = subst (λ b. Looks t.world.table.stored (get_plan {E = E} b q))
           (sym (ap is_disabled rules ∙ able))
           (Seeking _ has (Then plan.Drain _ tt Here))

@@ -24,9 +24,9 @@ use Rattle.moka_laws.proofs.Kept.{IsInvariant, in_reached}
 use Rattle.moka_laws.proofs.Weights.{weigh}
 use Rattle.moka_laws.proofs.Owning.{plan_left}
 use Rattle.moka_laws.proofs.Outcomes.{computes_of}
-use Rattle.moka_laws.proofs.Plans.{Reading_key, IsTail, Answering, Settling, IsDrained, Putting, IsPosted, Draining, Ended, Locking, IsPlan, Posted, Drained, Posting, Hearing, Noticing, Listening, Unlocking, Turning, Applying, Ending, Reading, Writing, Freeing, Idling}
+use Rattle.moka_laws.proofs.Plans.{Reading_key, IsTail, Answering, Settling, IsDrained, Putting, IsPosted, Draining, Ended, Locking, IsPlan, Posted, Drained, Posting, Hearing, Noticing, Listening, Unlocking, Turning, Applying, Ending, Reading, Writing, Freeing, Idling, Walking}
 use Rattle.moka_laws.proofs.Reading.{joins, reader_joins}
-use Rattle.moka_laws.proofs.Roles.{Fits, awaited, owners}
+use Rattle.moka_laws.proofs.Roles.{Fits, awaited, owners, walk_awaits}
 use Rattle.moka_laws.proofs.Safe.{IsWell, well_kept, in_well}
 use Rattle.moka_laws.proofs.Served.{joined_live}
 
@@ -148,6 +148,7 @@ module _ {K V E : Type 0} where
   plan_role p (Freeing rest t) = inr (tail_role rest t)
   plan_role p (Idling rest t) = inr (tail_role rest t)
   plan_role p (Writing key value moment rest t) = inr (tail_role rest t)
+  plan_role p (Walking rest walk) = inr (walk_awaits p walk)
   plan_role p _ = inr refl
 
   role_alone : (o : Option (Load K)) (j : Option ℕ) (p : List (Item K V E)) → Fits o j p → OneRole p → is_some o ≡ true → is_some j ≡ false
@@ -174,7 +175,7 @@ module _ {K V E : Type 0} (eq : K → K → Bool) where
 
   awaited_kept : IsInvariant eq IsAwaited
   awaited_kept = record {
-    fresh = λ rules size tests has_log. record { well = (well_kept eq).fresh rules size tests has_log; awaited = λ o some. absurd (false≢true some) };
+    fresh = λ division divides rules size tests has_log. record { well = (well_kept eq).fresh division divides rules size tests has_log; awaited = λ o some. absurd (false≢true some) };
     at = λ s moment i. record { well = (well_kept eq).at s moment i.well; awaited = i.awaited };
     start = λ s start i. record { well = (well_kept eq).start s start i.well; awaited = i.awaited };
     step = λ s t n turn i step. record {

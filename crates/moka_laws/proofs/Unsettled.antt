@@ -28,9 +28,10 @@ use Rattle.moka_hist.specs.declared.visits.Visit.TheVariants as visit
 use Rattle.moka_laws.proofs.Counting.{none_some, put_cases, put_here, put_there}
 use Rattle.moka_laws.proofs.Kept.{IsInvariant}
 use Rattle.moka_laws.proofs.Owning.{plan_left}
-use Rattle.moka_laws.proofs.Plans.{Settling, IsDrained, Locking_out, Ended, IsPlan, Posted, Drained, IsKnown, known_kept}
+use Rattle.moka_laws.proofs.Plans.{Settling, IsDrained, Locking_out, Ended, IsPlan, Posted, Drained, IsKnown, known_kept, Walking}
 use Rattle.moka_laws.proofs.Roles.{Fits}
 use Rattle.moka_laws.proofs.Served.{IsServed}
+use Rattle.moka_laws.proofs.Walks.{Ends, Finds, Lists, Scans}
 
 module _ {K V E : Type 0} where
   -- What is kept of an end is kept of a call that has ended.
@@ -135,6 +136,10 @@ module _ {K V E : Type 0} where
       (a : Answer K V E) × (rest ≡ plan.Reply a ∷ [])
   settle_last p (Posted q (Ended r (Settling x a))) with rest e = (a, sym (rest_of e))
   settle_last p (Drained q d) with rest e = drained_last q d with rest e
+  settle_last p (Walking q Ends) with rest e = (answer.Done, cc)
+  settle_last p (Walking q (Lists part more walk)) with rest e = (answer.Done, cc)
+  settle_last p (Walking q (Finds key more walk)) with rest e = (answer.Done, cc)
+  settle_last p (Walking q (Scans there stored more walk)) with rest e = (answer.Done, cc)
   settle_last p _ with rest e = (answer.Done, cc)
 
   settles_item : (n m : ℕ) (with : Settled V E) (item : Item K V E) →
@@ -263,8 +268,8 @@ module _ {K V E : Type 0} (eq : K → K → Bool) where
 
   pub unsettled_kept : IsInvariant eq (IsUnsettled {K = K} {V = V} {E = E})
   unsettled_kept = record {
-    fresh = λ rules size tests has_log. record {
-      known = (known_kept eq).fresh rules size tests has_log;
+    fresh = λ division divides rules size tests has_log. record {
+      known = (known_kept eq).fresh division divides rules size tests has_log;
       numbered = λ n c live. absurd (none_some live);
       gone = λ m some. refl;
       given_out = λ m some. absurd (false≢true some);
@@ -274,12 +279,12 @@ module _ {K V E : Type 0} (eq : K → K → Bool) where
       known = (known_kept eq).start s start i.known;
       numbered = λ n c live.
           put_cases s.calls (s.world.desk.last + 1)
-          (Some (fresh_call s.world.desk.rules start)) n (Some c)
+          (Some (fresh_call s.world.table.division.parts s.world.desk.rules start)) n (Some c)
           (n ≤ s.world.desk.last + 1) live
           (λ here is. omega (arith, here)) (λ there is. omega (arith, i.numbered n c is));
       gone = λ m some.
           put_there s.calls (s.world.desk.last + 1)
-          (Some (fresh_call s.world.desk.rules start)) m (not_next s.world.desk.last m (i.given_out m some))
+          (Some (fresh_call s.world.table.division.parts s.world.desk.rules start)) m (not_next s.world.desk.last m (i.given_out m some))
           ∙ i.gone m some;
       given_out = λ m some. omega (arith, i.given_out m some);
     };

@@ -1,5 +1,5 @@
 -- When a step waits.
-use Rattle.std.proofs.Common.{◌≡◌, ◌≢◌, ◌↔◌, ℕ, ◌+◌, ◌==◌, Bool, true, false, List, [], ◌∷◌, Option, Some, None, IsNone, is_some, refl, sym, ap, ◌∙◌, subst}
+use Rattle.std.proofs.Common.{◌≡◌, ◌≢◌, ◌↔◌, ℕ, ◌+◌, ◌==◌, Bool, true, false, List, [], ◌∷◌, Option, Some, None, IsNone, is_some, refl, sym, ap, ◌∙◌, subst, map, ◌++◌}
 use Rattle.std.proofs.lemmas.Bool.{false≢true}
 use Rattle.moka_hist.specs.declared.replies.Answer.TheVariants as reply
 use Rattle.moka_hist.specs.State.{World, Call}
@@ -24,7 +24,7 @@ use Rattle.moka_hist.specs.declared.accesses.Turn.TheVariants as turn
 use Rattle.moka_laws.specs.Waiting.{WaitsByCause, WaitsFor}
 use Rattle.moka_laws.proofs.Counting.{none_some}
 use Rattle.moka_laws.proofs.Rules.{put_plans, loaded_plans, kept_next, chosen_next, told_op_next_by, IsLoad, IsComputes}
-use Rattle.moka_laws.proofs.Plans.{IsLook, IsTail, Answering, IsDrained, Looking, IsPosted, Draining, Ended, IsPlan, Posted, Drained, Judging, calls_known}
+use Rattle.moka_laws.proofs.Plans.{IsLook, IsTail, Answering, IsDrained, Looking, IsPosted, Draining, Ended, IsPlan, Posted, Drained, Judging, calls_known, Walking}
 use Rattle.moka_laws.proofs.StepCases.{OnStep, step_cases}
 use Rattle.moka_laws.proofs.Outcomes.{Outcomes, outcomes}
 use Rattle.moka_laws.proofs.Answering.{HasAnswers, answering, settlement_ready}
@@ -32,6 +32,7 @@ use Rattle.moka_laws.proofs.TakesFit.{AllTake, ToldFits, in_taking, load_takes_n
 use Rattle.moka_laws.proofs.Asking.{AsksWhole, ask_open, ask_closed, op_open, op_closed, in_asking, whole}
 use Rattle.moka_hist.specs.declared.loads.Compute.{Compute}
 use Rattle.moka_hist.specs.Computing.{after_told_op, after_read_key}
+use Rattle.moka_laws.proofs.Walks.{IsWalk, Ends}
 
 not_none : {A : Type 0} {a : A} (o : Option A) → o ≡ Some a → ¬ IsNone o
 not_none None e = λ h. none_some e
@@ -128,10 +129,15 @@ module _ {K V E : Type 0} where
   posted_judges p (Draining rest d) = tt
   posted_judges p (Ended rest t) = tail_judges rest t
 
+  walk_judges : (p : List (Item K V E)) → IsWalk p → Judges p
+  walk_judges p Ends = tt
+  walk_judges p _ = tt
+
   plan_judges : (p : List (Item K V E)) → IsPlan p → Judges p
   plan_judges p (Judging aim key stored l) = l
   plan_judges p (Posted rest d) = posted_judges rest d
   plan_judges p (Drained rest d) = drained_judges rest d
+  plan_judges p (Walking rest walk) = walk_judges rest walk
   plan_judges p _ = tt
 
   -- what a step has to show: it waits where Q holds, and then it changes nothing
@@ -237,6 +243,17 @@ module _ {K V E : Type 0} where
       (λ k old off some. never w c (λ q. q) (λ e. cc)),
       λ k old on some. never w c (λ q. q) (λ e. cc),
     )
+    on_item (plan.List_keys part) rest p t l = (
+      (λ more. never w c (λ q. q) (λ e. cc)),
+      λ listed keys e gives. never w c (λ q. q) (goes_on c (map plan.Find keys ++ rest)),
+    )
+    on_item (plan.Find key) rest p t l = (
+      (λ more. never w c (λ q. q) (λ e. cc)),
+      (λ none. never w c (λ q. q) (goes_on c rest)),
+      λ k stored some. never w c (λ q. q) (λ e. cc),
+    )
+    on_item (plan.Scan there stored) rest p t l =
+        ((λ seen. never w c (λ q. q) (λ e. cc)), λ unseen. never w c (λ q. q) (goes_on c rest))
     on_item (plan.Reply answer) rest p t l = never w c (λ q. q) (λ e. cc)
     on_item _ rest p t l = never w c (λ q. q) (goes_on c rest)
 

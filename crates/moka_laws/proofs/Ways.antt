@@ -1,21 +1,17 @@
 -- How long a call goes on by itself.
-use Rattle.std.proofs.Common.{◌≡◌, ℕ, zero, suc, ◌+◌, ◌-◌, ◌*◌, ◌<◌, ◌≤◌, max, nat_lt, Bool, true, false, cond, List, length, replicate, Option, Some, None, is_some, MatchOption, refl, sym, ap, ◌∙◌, subst, arith}
-use Rattle.moka_hist.specs.Bound.{decided_by, most_undecided, times_of, stayed, step_bound}
-use Rattle.moka_hist.specs.Places.{IsLawful}
-use Rattle.moka_hist.specs.Plan.{Item, Aim}
+use Rattle.std.proofs.Common.{◌≡◌, ℕ, ◌+◌, ◌-◌, ◌*◌, ◌<◌, ◌≤◌, max, nat_lt, Bool, true, false, cond, List, length, Option, Some, None, is_some, refl, sym, ap, ◌∙◌, subst, arith}
+use Rattle.moka_hist.specs.Bound.{decided_by, most_undecided, times_of, stayed, array_bound}
+use Rattle.moka_hist.specs.Plan.{Item, Aim, walks}
 use Rattle.moka_hist.specs.Plan as plan
-use Rattle.moka_hist.specs.Run.{Goings, Happens, Refuses, Run, Steps, Any, IsReached, reply_of}
+use Rattle.moka_hist.specs.Run.{IsReached}
 use Rattle.moka_hist.specs.State.{Call, State, TablePart, World}
 use Rattle.moka_hist.specs.Step.{Access, Gets, Step, access_of, going_as, next_of, state_after}
 use Rattle.moka_hist.specs.Step as step
-use Rattle.moka_hist.specs.Tables.{Operates, by_pair, removed, taken_by, written as written_to}
+use Rattle.moka_hist.specs.Tables.{Operates, by_pair, removed, taken_by, written as written_to, begun}
 use Rattle.moka_hist.specs.declared.accesses.Got.{Got}
 use Rattle.moka_hist.specs.declared.accesses.Got.TheVariants as got
 use Rattle.moka_hist.specs.declared.accesses.Turn.{Turn}
 use Rattle.moka_hist.specs.declared.accesses.Turn.TheVariants as turn
-use Rattle.moka_hist.specs.declared.events.Event.TheVariants as event
-use Rattle.moka_hist.specs.declared.replies.Refusal.TheVariants as refusal
-use Rattle.moka_hist.specs.declared.replies.Reply.TheVariants as reply
 use Rattle.moka_hist.specs.declared.records.Stored.{Stored}
 use Rattle.moka_hist.specs.declared.visits.Found.{Found}
 use Rattle.moka_hist.specs.declared.tables.TableAnswer.{TableAnswer}
@@ -24,16 +20,19 @@ use Rattle.moka_hist.specs.declared.tables.TableOp.TheVariants as op
 use Rattle.moka_hist.specs.declared.tables.TableTurn.TheVariants as table
 use Rattle.moka_bound.specs.Ahead.{growth, ahead, judge_steps, read_key_steps, steps_of, work_in}
 use Rattle.moka_hist.specs.Visits.{settlement_for}
-use Rattle.moka_bound.specs.Falling.{Shortens}
+use Rattle.moka_bound.specs.Falling.{Shortens, keys_in}
 use Rattle.moka_bound.proofs.Falls.{going_falls}
 use Rattle.moka_bound.proofs.More.{post_worst}
 use Rattle.moka_bound.proofs.Size.{access_size}
-use Rattle.moka_laws.specs.Bounded.{LogsHaveRoom, StepsAreBounded, StepEventsAreBounded}
-use Rattle.moka_laws.proofs.Counting.{none_some, put_here, same_number}
+use Rattle.moka_laws.specs.Bounded.{LogsHaveRoom}
+use Rattle.moka_laws.proofs.Counting.{put_here, same_number}
 use Rattle.moka_laws.proofs.Kept.{IsInvariant, in_reached}
-use Rattle.moka_laws.proofs.Plans.{IsTail, Answering, Settling, IsDrained, Looking, Giving, Putting, IsPosted, Draining, Ended, Locking, IsPlan, Posted, Drained, Posting, Hearing, Noticing, Listening, Unlocking, Turning, Applying, Ending, Judging, Writing, Finding, Taking, Freeing, Idling, Asking_op, Reading_key, calls_known}
-use Rattle.moka_laws.proofs.Reached.{step_reached, steps_reached}
+use Rattle.moka_laws.proofs.Plans.{IsTail, Answering, Settling, IsDrained, Looking, Giving, Putting, IsPosted, Draining, Ended, Locking, IsPlan, Posted, Drained, Posting, Hearing, Noticing, Listening, Unlocking, Turning, Applying, Ending, Judging, Writing, Finding, Taking, Freeing, Idling, Asking_op, Reading_key, calls_known, Walking}
 use Rattle.moka_laws.proofs.Safe.{in_well, may_step}
+use Rattle.moka_laws.proofs.Walks.{Ends, Finds, Lists, Scans}
+
+true_false : true ≡ false → ⊥
+true_false e = cc
 
 -- ---- what a plan takes at most
 
@@ -77,33 +76,37 @@ module _ {K V E : Type 0} (owed most aborts left : ℕ) (within : left ≤ most)
       omega (arith, drained_steps false most true rest (omega arith) d)
   posted_steps room l ended p (Ended rest t) = omega (arith, tail_steps room l ended rest t)
 
-  few_steps : (room ended : Bool) (p : List (Item K V E)) → IsPlan p →
+  few_steps : (room ended : Bool) (p : List (Item K V E)) → IsPlan p → walks p ≡ false →
       steps_of owed most aborts room left ended p ≤ 16 * owed + 2 * most + 416
-  few_steps room ended p (Posted rest d) = omega (arith, posted_steps room left ended rest d)
-  few_steps room ended p (Drained rest d) =
+  few_steps room ended p (Posted rest d) calm = omega (arith, posted_steps room left ended rest d)
+  few_steps room ended p (Drained rest d) calm =
       omega (arith, drained_steps room left ended rest within d)
-  few_steps room ended p (Posting x rest d) =
+  few_steps room ended p (Posting x rest d) calm =
       omega (arith, post_worst room, posted_steps false most true rest d)
-  few_steps room ended p (Hearing number x rest d) =
+  few_steps room ended p (Hearing number x rest d) calm =
       omega (arith, posted_steps false most true rest d)
-  few_steps room ended p (Noticing key old cause upsert x rest t) =
+  few_steps room ended p (Noticing key old cause upsert x rest t) calm =
       omega (arith, tail_steps false most true rest t)
-  few_steps room ended p (Listening x rest t) = omega (arith, tail_steps false most true rest t)
-  few_steps room ended p (Unlocking x rest t) = omega (arith, tail_steps false most true rest t)
-  few_steps room ended p (Turning x rest d) = omega (arith, posted_steps false most true rest d)
-  few_steps room ended p (Applying x rest d) = omega (arith, posted_steps false most true rest d)
-  few_steps room ended p (Ending x rest d) =
+  few_steps room ended p (Listening x rest t) calm = omega (arith, tail_steps false most true rest t)
+  few_steps room ended p (Unlocking x rest t) calm = omega (arith, tail_steps false most true rest t)
+  few_steps room ended p (Turning x rest d) calm = omega (arith, posted_steps false most true rest d)
+  few_steps room ended p (Applying x rest d) calm = omega (arith, posted_steps false most true rest d)
+  few_steps room ended p (Ending x rest d) calm =
       omega (arith, post_worst room, posted_steps false most true rest d)
-  few_steps room ended p (Judging aim key stored look) =
+  few_steps room ended p (Judging aim key stored look) calm =
       omega (arith, judge_few owed most aborts aim)
-  few_steps room ended p (Reading_key compute) = omega (arith, read_key_few ended owed most)
-  few_steps room ended p (Writing key value moment rest t) =
+  few_steps room ended p (Reading_key compute) calm = omega (arith, read_key_few ended owed most)
+  few_steps room ended p (Writing key value moment rest t) calm =
       omega (arith, within, put_steps (most + growth) (most + growth) rest t)
-  few_steps room ended p (Finding key stamp cause) = omega (arith, within)
-  few_steps room ended p (Taking removal key) = omega (arith, within)
-  few_steps room ended p (Freeing rest t) = omega (arith, tail_steps false most true rest t)
-  few_steps room ended p (Idling rest t) = omega (arith, tail_steps false most true rest t)
-  few_steps room ended p _ = omega arith
+  few_steps room ended p (Finding key stamp cause) calm = omega (arith, within)
+  few_steps room ended p (Taking removal key) calm = omega (arith, within)
+  few_steps room ended p (Freeing rest t) calm = omega (arith, tail_steps false most true rest t)
+  few_steps room ended p (Idling rest t) calm = omega (arith, tail_steps false most true rest t)
+  few_steps room ended p (Walking rest Ends) calm = omega arith
+  few_steps room ended p (Walking rest (Lists part more walk)) calm = absurd (true_false calm)
+  few_steps room ended p (Walking rest (Finds key more walk)) calm = absurd (true_false calm)
+  few_steps room ended p (Walking rest (Scans there found more walk)) calm = absurd (true_false calm)
+  few_steps room ended p _ calm = omega arith
 
 -- ---- what each access does to it
 
@@ -125,6 +128,7 @@ module _ {K V : Type 0} (eq : K → K → Bool) where
           (by_pair out w (written_to eq n w key stored)).keys ≤
           (by_pair out w (written_to eq n w key stored)).peak
       by out = kept w h (written_to eq n w key stored) (omega arith) out
+  operation_peak n w t (op.Keys part) answer o h = subst (λ (v : TablePart K V). v.keys ≤ v.peak) (sym o.5) h
   operation_peak n w t (op.RemoveIf key stamp) answer o h =
       subst (λ (v : TablePart K V). v.keys ≤ v.peak) (sym o.1) (by (taken_by stamp (w.stored key)))
     where
@@ -150,7 +154,7 @@ module _ {K V E : Type 0} (eq : K → K → Bool) where
   access_peak : (n : ℕ) (w new : World K V E) (a : Access K V E) (g : Got K V E) → Gets eq n w a g new → w.table.keys ≤ w.table.peak → new.table.keys ≤ new.table.peak
   access_peak n w new (step.On_table o) (got.Table table.Going) gets h = subst (λ (v : World K V E). v.table.keys ≤ v.table.peak) (sym gets.1) h
   access_peak n w new (step.On_table o) (got.Table (table.Decided answer)) gets h =
-      subst (λ (v : World K V E). v.table.keys ≤ v.table.peak) (sym gets.2) (operation_peak eq n w.table gets.0 o answer gets.1 h)
+      subst (λ (v : World K V E). v.table.keys ≤ v.table.peak) (sym gets.2) (operation_peak eq n (begun w.table n o) gets.0 o answer gets.1 h)
   access_peak n w new (step.On_desk made) (got.Desk found) gets h = subst (λ (v : World K V E). v.table.keys ≤ v.table.peak) (sym gets.1) h
   access_peak n w new _ _ gets h = absurd gets
 
@@ -160,7 +164,7 @@ module _ {K V E : Type 0} (eq : K → K → Bool) where
 
   peak_kept : IsInvariant {K = K} {V = V} {E = E} eq KeysWerePeak
   peak_kept = record {
-    fresh = λ rules size tests has_log. omega arith;
+    fresh = λ division divides rules size tests has_log. omega arith;
     at = λ s moment h. h;
     start = λ s start h. h;
     step = peak_step;
@@ -175,83 +179,67 @@ module _ {K V E : Type 0} (eq : K → K → Bool) where
   decided_not : (g : TableAnswer K V) → ◌≡◌ {A = Got K V E} (got.Table (table.Decided g)) (got.Table table.Going) → ⊥
   decided_not g e = cc
 
-  decided_shortens : (n : ℕ) (w : World K V E) (t : TablePart K V) (o : TableOp K V) (g : TableAnswer K V) → Operates eq n w.table o g t →
-      w.table.keys ≤ w.table.peak →
-      Shortens {E = E} (work_in n w) (work_in n (record w { table = t; stay = decided_by n })) (step.On_table o) (got.Table (table.Decided g))
-  decided_shortens n w t (op.Get key) g o h =
-      subst (λ v. Shortens {E = E} (work_in n w) (work_in n (record w { table = v; stay = decided_by n })) (step.On_table (op.Get key)) (got.Table (table.Decided g)))
-      (sym o.1) (record { within = omega arith; raises = omega arith; going = λ e. absurd (decided_not g e) })
-  decided_shortens n w t (op.InsertOrModify key stored) g o h =
+  -- how many keys the lists may give that are yet to be made is told apart
+  decided_shortens : (n j k : ℕ) (w : World K V E) (t : TablePart K V) (o : TableOp K V) (g : TableAnswer K V) → Operates eq n (begun w.table n o) o g t →
+      w.table.keys ≤ w.table.peak → k + keys_in {E = E} (got.Table (table.Decided g)) ≤ j →
+      Shortens {E = E} (work_in n j w) (work_in n k (record w { table = t; stay = decided_by n })) (step.On_table o) (got.Table (table.Decided g))
+  decided_shortens n j k w t (op.Get key) g o h less =
+      subst (λ v. Shortens {E = E} (work_in n j w) (work_in n k (record w { table = v; stay = decided_by n })) (step.On_table (op.Get key)) (got.Table (table.Decided g)))
+      (sym o.1) (record { within = omega arith; raises = omega arith; going = λ e. absurd (decided_not g e); keys = less })
+  decided_shortens n j k w t (op.InsertOrModify key stored) g o h less =
       subst
-      (λ v. Shortens {E = E} (work_in n w) (work_in n (record w { table = v; stay = decided_by n })) (step.On_table (op.InsertOrModify key stored))
+      (λ v. Shortens {E = E} (work_in n j w) (work_in n k (record w { table = v; stay = decided_by n })) (step.On_table (op.InsertOrModify key stored))
       (got.Table (table.Decided g)))
-      (sym o.1) (record { within = omega arith; raises = written eq n w.table key stored h; going = λ e. absurd (decided_not g e) })
-  decided_shortens n w t (op.InsertIfAbsent key stored) g o h =
+      (sym o.1) (record { within = omega arith; raises = written eq n w.table key stored h; going = λ e. absurd (decided_not g e); keys = less })
+  decided_shortens n j k w t (op.InsertIfAbsent key stored) g o h less =
       subst
-      (λ v. Shortens {E = E} (work_in n w) (work_in n (record w { table = v; stay = decided_by n }))
+      (λ v. Shortens {E = E} (work_in n j w) (work_in n k (record w { table = v; stay = decided_by n }))
       (step.On_table (op.InsertIfAbsent key stored))
       (got.Table (table.Decided g)))
       (sym o.1) (by (w.table.stored key))
     where
       by : (there : Option (K × Stored V)) →
-          Shortens {E = E} (work_in n w)
-          (work_in n (record w {
+          Shortens {E = E} (work_in n j w)
+          (work_in n k (record w {
             table = by_pair there w.table (written_to eq n w.table key stored);
             stay = decided_by n;
           }))
           (step.On_table (op.InsertIfAbsent key stored)) (got.Table (table.Decided g))
-      by None = record {
-        within = omega arith;
-        raises = written eq n w.table key stored h;
-        going = λ e. absurd (decided_not g e);
-      }
-      by (Some pair) = record {
-        within = omega arith;
-        raises = omega arith;
-        going = λ e. absurd
-            (decided_not g e);
-      }
-  decided_shortens n w t (op.RemoveIf key stamp) g o h =
+      by None = record { within = omega arith; raises = written eq n w.table key stored h; going = λ e. absurd (decided_not g e); keys = less }
+      by (Some pair) = record { within = omega arith; raises = omega arith; going = λ e. absurd (decided_not g e); keys = less }
+  decided_shortens n j k w t (op.RemoveIf key stamp) g o h less =
       subst
-      (λ v. Shortens {E = E} (work_in n w) (work_in n (record w { table = v; stay = decided_by n }))
+      (λ v. Shortens {E = E} (work_in n j w) (work_in n k (record w { table = v; stay = decided_by n }))
       (step.On_table (op.RemoveIf key stamp))
       (got.Table (table.Decided g)))
       (sym o.1) (by (taken_by stamp (w.table.stored key)))
     where
       by : (out : Option (K × Stored V)) →
-          Shortens {E = E} (work_in n w)
-          (work_in n (record w {
+          Shortens {E = E} (work_in n j w)
+          (work_in n k (record w {
             table = by_pair out (removed eq n w.table key) w.table;
-            stay =
-                decided_by n;
+            stay = decided_by n;
           }))
           (step.On_table (op.RemoveIf key stamp)) (got.Table (table.Decided g))
-      by None = record {
-        within = omega arith;
-        raises = omega arith;
-        going = λ e. absurd
-            (decided_not g e);
-      }
-      by (Some pair) = record {
-        within = omega arith;
-        raises = omega arith;
-        going = λ e. absurd
-            (decided_not g e);
-      }
+      by None = record { within = omega arith; raises = omega arith; going = λ e. absurd (decided_not g e); keys = less }
+      by (Some pair) = record { within = omega arith; raises = omega arith; going = λ e. absurd (decided_not g e); keys = less }
+  decided_shortens n j k w t (op.Keys part) g o h less =
+      subst (λ v. Shortens {E = E} (work_in n j w) (work_in n k (record w { table = v; stay = decided_by n })) (step.On_table (op.Keys part)) (got.Table (table.Decided g)))
+      (sym o.5) (record { within = omega arith; raises = omega arith; going = λ e. absurd (decided_not g e); keys = less })
 
-  shortens_in : (n : ℕ) (w new : World K V E) (a : Access K V E) (g : Got K V E) → Gets eq n w a g new → w.table.keys ≤ w.table.peak →
-      Shortens {E = E} (work_in n w) (work_in n new) a g
-  shortens_in n w new (step.On_table o) (got.Table table.Going) gets h =
+  shortens_in : (n j k : ℕ) (w new : World K V E) (a : Access K V E) (g : Got K V E) → Gets eq n w a g new → w.table.keys ≤ w.table.peak →
+      k + keys_in g ≤ j → Shortens {E = E} (work_in n j w) (work_in n k new) a g
+  shortens_in n j k w new (step.On_table o) (got.Table table.Going) gets h less =
       let once : times_of (stayed w.stay n) n ≡ times_of w.stay n + 1 = ap (λ b. cond b (times_of w.stay n + 1) 0) (same_number n) in
-      subst (λ v. Shortens {E = E} (work_in n w) (work_in n v) (step.On_table o) (got.Table table.Going)) (sym gets.1)
-      (record { within = omega arith; raises = omega arith; going = λ e. omega (arith, once, gets.0) })
-  shortens_in n w new (step.On_table o) (got.Table (table.Decided answer)) gets h =
-      subst (λ v. Shortens {E = E} (work_in n w) (work_in n v) (step.On_table o) (got.Table (table.Decided answer))) (sym gets.2)
-      (decided_shortens n w gets.0 o answer gets.1 h)
-  shortens_in n w new (step.On_desk made) (got.Desk found) gets h =
-      subst (λ v. Shortens {E = E} (work_in n w) (work_in n v) (step.On_desk made) (got.Desk found)) (sym gets.1)
-      (record { within = omega arith; raises = omega arith; going = λ e. absurd (desk_not found e) })
-  shortens_in n w new _ _ gets h = absurd gets
+      subst (λ v. Shortens {E = E} (work_in n j w) (work_in n k v) (step.On_table o) (got.Table table.Going)) (sym gets.1)
+      (record { within = omega arith; raises = omega arith; going = λ e. omega (arith, once, gets.0); keys = less })
+  shortens_in n j k w new (step.On_table o) (got.Table (table.Decided answer)) gets h less =
+      subst (λ v. Shortens {E = E} (work_in n j w) (work_in n k v) (step.On_table o) (got.Table (table.Decided answer))) (sym gets.2)
+      (decided_shortens n j k w gets.0 o answer gets.1 h less)
+  shortens_in n j k w new (step.On_desk made) (got.Desk found) gets h less =
+      subst (λ v. Shortens {E = E} (work_in n j w) (work_in n k v) (step.On_desk made) (got.Desk found)) (sym gets.1)
+      (record { within = omega arith; raises = omega arith; going = λ e. absurd (desk_not found e); keys = less })
+  shortens_in n j k w new _ _ gets h less = absurd gets
 
   -- ---- the log's room
 
@@ -263,7 +251,7 @@ module _ {K V E : Type 0} (eq : K → K → Bool) where
 
   log_kept : IsInvariant {K = K} {V = V} {E = E} eq HasLog
   log_kept = record {
-    fresh = λ rules size tests has_log. has_log;
+    fresh = λ division divides rules size tests has_log. has_log;
     at = λ s moment h. h;
     start = λ s start h. h;
     step = log_step;
@@ -281,84 +269,32 @@ module _ {K V E : Type 0} (eq : K → K → Bool) where
   same_call c d e = cc
 
   -- a step that leaves the call going leaves it live, with fewer steps ahead
-  pub step_falls : (s t : State K V E) (n : ℕ) (c : Call K V E) → IsReached eq s → s.calls n ≡ Some c → Step eq s n turn.Going t →
-      (d : Call K V E) × (t.calls n ≡ Some d) × (ahead (work_in n t.world) d < ahead (work_in n s.world) c)
-  step_falls s t n c h live st =
+  pub step_falls : (s t : State K V E) (n j k : ℕ) (c : Call K V E) → IsReached eq s → s.calls n ≡ Some c → (st : Step eq s n turn.Going t) →
+      (walks c.plan ≡ false → j ≡ 0) → k + keys_in st.given ≤ j →
+      (d : Call K V E) × (t.calls n ≡ Some d) × (ahead (work_in n k t.world) d < ahead (work_in n j s.world) c)
+  step_falls s t n j k c h live st none less =
       let is : c ≡ st.call = same_call c st.call (sym live ∙ st.live) in
-      let f = going_falls eq n st.call s.world st.world st.given (work_in n s.world) (work_in n st.world)
-      (calls_known eq s h n st.call st.live).young (logs_have_room s h)
+      let f = going_falls eq n st.call s.world st.world st.given (work_in n j s.world) (work_in n k st.world)
+      (calls_known eq s h n st.call st.live).young (logs_have_room s h) (subst (λ (v : Call K V E). walks v.plan ≡ false → j ≡ 0) is none)
       (may_step eq s (in_well eq s h) n st.call st.live) st.gets
       (record { owed = refl; logged = refl; size = refl; ended = refl })
       (record { owed = refl; logged = refl; size = refl; ended = refl })
-      (shortens_in n s.world st.world (access_of n st.call) st.given st.gets (in_reached eq KeysWerePeak peak_kept s h)) (sym st.turns) in (
+      (shortens_in n j k s.world st.world (access_of n st.call) st.given st.gets (in_reached eq KeysWerePeak peak_kept s h) less) (sym st.turns) in (
         f.0,
         ap (λ (v : State K V E). v.calls n) st.after ∙ put_here s.calls n (next_of n st.call st.given).left ∙ ap (λ v. v.left) f.1,
-        rw (is, st.after) f.2,
+        subst (λ (v : Call K V E). ahead (work_in n k t.world) f.0 < ahead (work_in n j s.world) v) (sym is)
+            (subst (λ (v : State K V E). ahead (work_in n k v.world) f.0 < ahead (work_in n j s.world) st.call) (sym st.after) f.2),
       )
 
-  ahead_bounded : (s : State K V E) (n : ℕ) (c : Call K V E) → IsReached eq s → s.calls n ≡ Some c → ahead (work_in n s.world) c < step_bound s
-  ahead_bounded s n c h live =
+  pub keys_peak : (s : State K V E) → IsReached eq s → s.world.table.keys ≤ s.world.table.peak
+  keys_peak s h = in_reached eq KeysWerePeak peak_kept s h
+
+  -- a call without a walk has few steps ahead
+  pub calm_bounded : (s : State K V E) (n : ℕ) (c : Call K V E) → IsReached eq s → s.calls n ≡ Some c → walks c.plan ≡ false →
+      ahead (work_in n 0 s.world) c < 64 * (4 + array_bound s.world.table + length s.world.desk.owed + length s.world.desk.log)
+  calm_bounded s n c h live calm =
       let most = most_undecided s.world.table in
       let few = few_steps (length s.world.desk.owed) most c.aborts (most - times_of s.world.stay n) (omega arith)
       (nat_lt (length s.world.desk.log) s.world.desk.size)
-      (is_some (settlement_for s.world.desk n)) c.plan (calls_known eq s h n c live).plan in
+      (is_some (settlement_for s.world.desk n)) c.plan (calls_known eq s h n c live).plan calm in
       omega (arith, few)
-
-  going_falls_by : (k : ℕ) (s t : State K V E) (n : ℕ) (c : Call K V E) → IsReached eq s → s.calls n ≡ Some c → Goings eq Any k s n t →
-      (d : Call K V E) × (t.calls n ≡ Some d) × (k + ahead (work_in n t.world) d ≤ ahead (work_in n s.world) c)
-  unfolding Goings
-  going_falls_by zero s t n c h live going = rw going (c, live, omega arith)
-  going_falls_by (suc k) s t n c h live going =
-      let before = going_falls_by k s going.0 n c h live going.1 in
-      let last = step_falls going.0 t n before.0 (steps_reached eq Any k s going.0 n h going.1) before.1 going.2 in
-      (last.0, last.1, omega (arith, before.2, last.2))
-
-  none_left : (k : ℕ) (s t : State K V E) (n : ℕ) → s.calls n ≡ None → Goings eq Any k s n t → k ≡ 0
-  unfolding Goings
-  none_left zero s t n none going = refl
-  none_left (suc k) s t n none going = by k going.1 (none_left k s going.0 n none going.1)
-    where
-      by : (j : ℕ) → Goings eq Any j s n going.0 → j ≡ 0 → suc k ≡ 0
-      by zero g e = absurd (none_some (sym none ∙ ap (λ (v : State K V E). v.calls n) (sym g) ∙ going.2.live))
-      by (suc j) g e = absurd (omega (arith, e))
-
-  pub steps_bounded : StepsAreBounded K V E eq
-  steps_bounded k s t n h going = by (s.calls n) refl
-    where
-      by : (o : Option (Call K V E)) → s.calls n ≡ o → k < step_bound s
-      by None e = omega (arith, none_left k s t n e going)
-      by (Some c) e = omega (arith, (going_falls_by k s t n c h e going).2, ahead_bounded s n c h e)
-
-  -- ---- events
-
-  is_going : (t : Turn K V E) → reply.Going ≡ reply_of t → t ≡ turn.Going
-  is_going turn.Going e = refl
-  is_going _ e = cc
-
-  -- the event was a step of the live call, which leaves it going
-  going_event : (s t : State K V E) (n : ℕ) → Happens eq (IsLawful eq) s (event.Step n) reply.Going t →
-      (c : Call K V E) × (s.calls n ≡ Some c) × Step eq s n turn.Going t
-  going_event s t n h = by (s.calls n) refl h
-    where
-      refused : Refuses s refusal.UnknownCall reply.Going t → ⊥
-      refused r = let e = r.reply in cc
-
-      by : (o : Option (Call K V E)) → s.calls n ≡ o → MatchOption o (Refuses s refusal.UnknownCall reply.Going t) (λ _. Steps eq s n reply.Going t) →
-          (c : Call K V E) × (s.calls n ≡ Some c) × Step eq s n turn.Going t
-      by None e r = absurd (refused r)
-      by (Some c) e steps = (c, e, subst (λ v. Step eq s n v t) (is_going steps.turn steps.reply) steps.step)
-
-  pub step_events_bounded : StepEventsAreBounded K V E eq
-  step_events_bounded zero s t n h run = omega arith
-  step_events_bounded (suc k) s t n h run =
-      let first = going_event s run.0 n run.1 in
-      omega (arith, events_fall (suc k) s t n first.0 h first.1 run, ahead_bounded s n first.0 h first.1)
-    where
-      events_fall : (k : ℕ) (s t : State K V E) (n : ℕ) (c : Call K V E) → IsReached eq s → s.calls n ≡ Some c →
-          Run eq (IsLawful eq) s (replicate k (event.Step n)) (replicate k reply.Going) t → k ≤ ahead (work_in n s.world) c
-      events_fall zero s t n c h live run = omega arith
-      events_fall (suc k) s t n c h live run =
-          let first = going_event s run.0 n run.1 in
-          let falls = step_falls s run.0 n c h live first.2 in
-          let more = events_fall k run.0 t n falls.0 (step_reached eq s run.0 n turn.Going h first.2) falls.1 run.3 in
-          omega (arith, more, falls.2)

@@ -33,7 +33,7 @@ abbrev pub InsertThenGet : (K V E : Type 0) → (K → K → Bool) → Type 0
 InsertThenGet K V E eq =
     (s t u : State K V E) (n : ℕ) (key q : K) (value : V) (a : Answer K V E) →
     IsReached eq s → is_disabled s.world.desk.rules ≡ false → s.calls n ≡ Some
-    (fresh_call s.world.desk.rules (start.Insert key value)) →
+    (fresh_call s.world.table.division.parts s.world.desk.rules (start.Insert key value)) →
     AnswersAlone eq s n answer.Done t → eq key q ≡ true →
     (got : AnswersAlone eq (started t (start.Get q)) (t.world.desk.last + 1) a u) →
     IsVisibleAt got.mid q → a ≡ answer.Found (Some value)

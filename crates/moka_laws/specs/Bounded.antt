@@ -15,7 +15,7 @@ LogsHaveRoom K V E eq = (s : State K V E) → IsReached eq s → 0 < s.world.des
 -- fewer than the bound
 abbrev pub StepsAreBounded : (K V E : Type 0) → (K → K → Bool) → Type 0
 StepsAreBounded K V E eq =
-    (k : ℕ) (s t : State K V E) (n : ℕ) → IsReached eq s → Goings eq Any k s n t → k < step_bound s
+    (k : ℕ) (s t : State K V E) (n : ℕ) → IsReached eq s → Goings eq Any k s n t → k < step_bound s n
 
 -- so are they as events: of as many steps of one call as the bound says, one has another reply than
 -- Going
@@ -23,4 +23,4 @@ abbrev pub StepEventsAreBounded : (K V E : Type 0) → (K → K → Bool) → Ty
 StepEventsAreBounded K V E eq =
     (k : ℕ) (s t : State K V E) (n : ℕ) → IsReached eq s →
     Run eq (IsLawful eq) s (replicate k (event.Step n)) (replicate k reply.Going) t →
-    k < step_bound s
+    k < step_bound s n

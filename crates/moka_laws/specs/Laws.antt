@@ -24,7 +24,7 @@ use Rattle.moka_laws.specs.Missing.{MissingCanCome, TurnIsHeld, WaitersHaveOwner
 use Rattle.moka_laws.specs.Moments.{AccessesAreInTime, AccessesAreSeen, InvalidatedStayUnseen}
 use Rattle.moka_laws.specs.Moments.{InvalidationHides}
 use Rattle.moka_laws.specs.Moving.{CallsAreSafe, MoveIsStep, MovesAreSteps, PolledIsPoll}
-use Rattle.moka_laws.specs.OwnKeys.{ReachedByLawfulRun, ReachedIsUnderOwnKeys}
+use Rattle.moka_laws.specs.OwnKeys.{ReachedByLawfulRun, ReachedIsUnderOwnKeys, StoredAreCounted}
 use Rattle.moka_laws.specs.Reaching.{FreshIsReached, LiveWasStarted, ReachedByEvent, ReachedByRun}
 use Rattle.moka_laws.specs.Reaching.{ReachedByStep, ReachedBySteps, RunGoesOn, RunsAreWays}
 use Rattle.moka_laws.specs.Readers.{NothingUnreadIsKept, ReadersAreCounted, WaitersAnswerSettled}
@@ -36,6 +36,8 @@ use Rattle.moka_laws.specs.Sound.{ClockKeepsSound, DecidingKeepsSound, EnteringK
 use Rattle.moka_laws.specs.Sound.{FreshIsSound, LeavingKeepsSound, ReachedIsSound}
 use Rattle.moka_laws.specs.Sound.{TellingKeepsSound, VisitsKeepSound}
 use Rattle.moka_laws.specs.Waiting.{LiveCallsGoOn, WaitsByCause}
+use Rattle.moka_laws.specs.Walks.{ItemsAreApart, ItemsAreFound, ItemsAreWalks, ListsAreStarted, LooksAreApart}
+use Rattle.moka_laws.specs.Walks.{ScansShow, StoredAreFound, UndisturbedShow}
 
 -- Every law of this crate: each field is the clause of the function of its name, or, where that has
 -- several, of one of them.
@@ -65,6 +67,7 @@ pub record LawsOfReached (K V E : Type 0) (eq : K → K → Bool) : Type 0 where
   pub run_is_lawful : RunIsLawful K V E eq
   pub lawful_run_goes_on : LawfulRunGoesOn K V E eq
   -- what is stored
+  pub stored_are_counted : StoredAreCounted K V E eq
   pub stored_under_own_keys : ReachedIsUnderOwnKeys K V E eq
   pub reached_by_lawful_run : ReachedByLawfulRun K V E eq
   -- the writes that calls hold
@@ -158,3 +161,12 @@ pub record LawsOfReached (K V E : Type 0) (eq : K → K → Bool) : Type 0 where
   pub asks_are_live-live : AsksAreLive K V E eq
   pub asks_are_live-heard : RunningAreHeard K V E eq
   pub off_was_told : OffWasTold K V E eq
+  -- what a walk gives
+  pub items_are_walks : ItemsAreWalks K V E eq
+  pub scans_show : ScansShow K V E eq
+  pub items_are_found : ItemsAreFound K V E eq
+  pub items_are_apart : ItemsAreApart K V E eq
+  pub lists_are_started : ListsAreStarted K V E eq
+  pub looks_are_apart : LooksAreApart K V E eq
+  pub stored_are_found : StoredAreFound K V E eq
+  pub undisturbed_show : UndisturbedShow K V E eq

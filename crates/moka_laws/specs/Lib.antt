@@ -1,5 +1,6 @@
 pub mod Starting
 pub mod Looks
+pub mod Walks
 pub mod Moments
 pub mod Starts
 pub mod Reaching

@@ -70,6 +70,9 @@ module _ {K V E : Type 0} where
   locked_key (plan.Out removal key ∷ rest) = Some key
   locked_key (plan.Idle ∷ rest) = None
   locked_key (plan.Invalidate_all ∷ rest) = None
+  locked_key (plan.List_keys part ∷ rest) = None
+  locked_key (plan.Find key ∷ rest) = None
+  locked_key (plan.Scan there found ∷ rest) = None
   locked_key (plan.Reply answer ∷ rest) = None
 
 -- in every reached state under a listener a call holds the lock of the key that it is to write or

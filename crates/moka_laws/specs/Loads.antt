@@ -58,6 +58,7 @@ is_computed (answer.InitErr error) = false
 is_computed answer.RetriesExhausted = false
 is_computed answer.Evicted = false
 is_computed answer.Kept = false
+is_computed answer.End = false
 
 -- the reply answers as a compute does that ended so: for those that wait, with nothing
 pub record SaysComputed {K V E : Type 0} (with : Settled V E) (reply : Turn K V E) : Type 0 where
@@ -238,6 +239,9 @@ module _ {K V E : Type 0} where
   is_reading (plan.Out removal key ∷ rest) = false
   is_reading (plan.Idle ∷ rest) = false
   is_reading (plan.Invalidate_all ∷ rest) = false
+  is_reading (plan.List_keys part ∷ rest) = false
+  is_reading (plan.Find key ∷ rest) = false
+  is_reading (plan.Scan there found ∷ rest) = false
   is_reading (plan.Reply answer ∷ rest) = false
 
   -- 1 where the call of this number reads with its next step that its owner was dropped
@@ -276,6 +280,9 @@ module _ {K V E : Type 0} where
   test_asked (plan.Out removal key ∷ rest) = 0
   test_asked (plan.Idle ∷ rest) = 0
   test_asked (plan.Invalidate_all ∷ rest) = 0
+  test_asked (plan.List_keys part ∷ rest) = 0
+  test_asked (plan.Find key ∷ rest) = 0
+  test_asked (plan.Scan there found ∷ rest) = 0
   test_asked (plan.Reply answer ∷ rest) = 0
 
   -- 1 where the call asks its replace test with its next step

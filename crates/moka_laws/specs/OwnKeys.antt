@@ -1,5 +1,6 @@
--- The keys that stored pairs stand under.
-use Rattle.std.specs.Prelude.{◌≡◌, Bool, true, List, Some}
+-- The keys that stored pairs stand under, and how many there are.
+use Rattle.std.specs.Prelude.{◌≡◌, ◌≤◌, Bool, true, List, length, Some, IsSome}
+use Rattle.std.specs.List.{AllByRecursion, IsDistinct}
 use Rattle.moka_hist.specs.State.{State}
 use Rattle.moka_hist.specs.Places.{IsLawful}
 use Rattle.moka_hist.specs.Run.{Run, IsReached}
@@ -15,6 +16,12 @@ UnderOwnKeys {K} {V} {E} eq s =
 -- in every reached state each stored pair stands under its own key
 abbrev pub ReachedIsUnderOwnKeys : (K V E : Type 0) → (K → K → Bool) → Type 0
 ReachedIsUnderOwnKeys K V E eq = (s : State K V E) → IsReached eq s → UnderOwnKeys eq s
+
+-- the table counts its keys: no list of different ones that are stored is longer
+abbrev pub StoredAreCounted : (K V E : Type 0) → (K → K → Bool) → Type 0
+StoredAreCounted K V E eq =
+    (s : State K V E) (keys : List K) → IsReached eq s → IsDistinct eq keys →
+    AllByRecursion (λ q. IsSome (s.world.table.stored q)) keys → length keys ≤ s.world.table.keys
 
 -- what a run through lawful states leaves of a reached state is reached
 abbrev pub ReachedByLawfulRun : (K V E : Type 0) → (K → K → Bool) → Type 0

@@ -1,8 +1,8 @@
 -- Which states a run can reach, and how a run goes on.
 use Rattle.std.specs.Prelude.{◌≡◌, ℕ, ◌<◌, Bool, List, [], ◌∷◌, ◌++◌, Some}
-use Rattle.moka_hist.specs.State.{Call, State, fresh}
+use Rattle.moka_hist.specs.State.{Call, Division, State, fresh}
 use Rattle.moka_hist.specs.Step.{Step}
-use Rattle.moka_hist.specs.Run.{Goings, Happens, Run, Any, IsReached}
+use Rattle.moka_hist.specs.Run.{Divides, Goings, Happens, Run, Any, IsReached}
 use Rattle.moka_hist.specs.declared.rules.Rules.{Rules}
 use Rattle.moka_hist.specs.declared.events.Event.{Event}
 use Rattle.moka_hist.specs.declared.events.Start.{Start}
@@ -10,11 +10,12 @@ use Rattle.moka_hist.specs.declared.replies.Reply.{Reply}
 use Rattle.moka_hist.specs.declared.accesses.Turn.{Turn}
 use Rattle.moka_laws.specs.Starting.{Leads, Way, WasStarted}
 
--- a fresh cache of any rules is reached, with a log of any size but none
+-- a fresh cache of any division of its keys and any rules is reached, with a log of any size but none
 abbrev pub FreshIsReached : (K V E : Type 0) → (K → K → Bool) → Type 0
 FreshIsReached K V E eq =
+    (division : Division K) → Divides eq division →
     (rules : Rules) (size : ℕ) (tests : ℕ → K → V → Bool) → 0 < size →
-    IsReached eq (fresh K V E rules size tests)
+    IsReached eq (fresh K V E division rules size tests)
 
 -- what an event leaves of a reached state is reached
 abbrev pub ReachedByEvent : (K V E : Type 0) → (K → K → Bool) → Type 0

@@ -35,5 +35,5 @@ Fits {K} {V} {E} eq n begin c =
 -- so does a fresh call that asks nobody
 abbrev pub ShapesFit : (K V E : Type 0) → (K → K → Bool) → Type 0
 ShapesFit K V E eq =
-    (rules : Rules) (begin : Start K V) (n : ℕ) → asks_nobody begin ≡ true →
-    Fits {E = E} eq n begin (fresh_call rules begin)
+    (parts : ℕ) (rules : Rules) (begin : Start K V) (n : ℕ) → asks_nobody begin ≡ true →
+    Fits {E = E} eq n begin (fresh_call parts rules begin)

@@ -27,6 +27,7 @@ key_started (start.Invalidate key) = Some key
 key_started (start.Remove key) = Some key
 key_started (start.Evict key stamp cause) = Some key
 key_started start.InvalidateAll = None
+key_started start.Iter = None
 
 -- the pair that a call is started with, to store it
 abbrev pub brought : {K V : Type 0} → Start K V → Option (K × V)
@@ -44,6 +45,7 @@ brought (start.Invalidate key) = None
 brought (start.Remove key) = None
 brought (start.Evict key stamp cause) = None
 brought start.InvalidateAll = None
+brought start.Iter = None
 
 -- the kind of load that a call is started for, if it is one
 abbrev pub kind_loaded : {K V : Type 0} → Start K V → Option Kind
@@ -61,6 +63,7 @@ kind_loaded (start.Invalidate key) = None
 kind_loaded (start.Remove key) = None
 kind_loaded (start.Evict key stamp cause) = None
 kind_loaded start.InvalidateAll = None
+kind_loaded start.Iter = None
 
 -- the key that a call is started to compute
 abbrev pub computed_key : {K V : Type 0} → Start K V → Option K
@@ -78,6 +81,7 @@ computed_key (start.Invalidate key) = None
 computed_key (start.Remove key) = None
 computed_key (start.Evict key stamp cause) = None
 computed_key start.InvalidateAll = None
+computed_key start.Iter = None
 
 -- a call that is started for this asks nothing where another compute of the key goes: that is of one
 -- start alone
@@ -101,6 +105,7 @@ removal_started (start.Invalidate key) = Some (plan.To_invalidate, key)
 removal_started (start.Remove key) = Some (plan.To_remove, key)
 removal_started (start.Evict key stamp cause) = Some (plan.To_evict_chosen stamp cause, key)
 removal_started start.InvalidateAll = None
+removal_started start.Iter = None
 
 -- a call that is started for this asks its caller for nothing, and waits for no load and no compute
 abbrev pub asks_nobody : {K V : Type 0} → Start K V → Bool
@@ -111,6 +116,7 @@ asks_nobody (start.Invalidate key) = true
 asks_nobody (start.Remove key) = true
 asks_nobody (start.Evict key stamp cause) = true
 asks_nobody start.InvalidateAll = true
+asks_nobody start.Iter = true
 asks_nobody (start.GetWith key replace) = false
 asks_nobody (start.Optional key) = false
 asks_nobody (start.Try key) = false
@@ -143,6 +149,7 @@ may_answer (start.Remove key) (answer.Found value) = true
 may_answer (start.Evict key stamp cause) answer.Evicted = true
 may_answer (start.Evict key stamp cause) answer.Kept = true
 may_answer start.InvalidateAll answer.Done = true
+may_answer start.Iter answer.End = true
 may_answer _ _ = false
 
 -- the compute has stored a value
@@ -167,6 +174,7 @@ module _ {K V E : Type 0} where
   is_done answer.RetriesExhausted = false
   is_done answer.Evicted = false
   is_done answer.Kept = false
+  is_done answer.End = false
 
   abbrev pub is_fresh : Answer K V E → Bool
   is_fresh answer.Done = false
@@ -179,6 +187,7 @@ module _ {K V E : Type 0} where
   is_fresh answer.RetriesExhausted = false
   is_fresh answer.Evicted = false
   is_fresh answer.Kept = false
+  is_fresh answer.End = false
 
   abbrev pub has_put : Answer K V E → Bool
   has_put answer.Done = false
@@ -191,6 +200,7 @@ module _ {K V E : Type 0} where
   has_put answer.RetriesExhausted = false
   has_put answer.Evicted = false
   has_put answer.Kept = false
+  has_put answer.End = false
 
   -- The answer of a call that was started for this says that it has stored a value: an insert's that
   -- is done, a load's whose own initializer gave the value, an or_insert's that found none, and a
@@ -210,3 +220,4 @@ module _ {K V E : Type 0} where
   says_stored (start.Remove key) a = false
   says_stored (start.Evict key stamp cause) a = false
   says_stored start.InvalidateAll a = false
+  says_stored start.Iter a = false

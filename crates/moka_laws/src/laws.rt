@@ -27,6 +27,7 @@ pub fn laws_of_reached<K: Eq, V, E>()
     crate::event_is_lawful::<K, V, E>();
     crate::run_is_lawful::<K, V, E>();
     crate::lawful_run_goes_on::<K, V, E>();
+    crate::stored_are_counted::<K, V, E>();
     crate::stored_under_own_keys::<K, V, E>();
     crate::reached_by_lawful_run::<K, V, E>();
     crate::held_are_known::<K, V, E>();
@@ -96,4 +97,12 @@ pub fn laws_of_reached<K: Eq, V, E>()
     crate::notices_tell_left::<K, V, E>();
     crate::asks_are_live::<K, V, E>();
     crate::off_was_told::<K, V, E>();
+    crate::items_are_walks::<K, V, E>();
+    crate::scans_show::<K, V, E>();
+    crate::items_are_found::<K, V, E>();
+    crate::items_are_apart::<K, V, E>();
+    crate::lists_are_started::<K, V, E>();
+    crate::looks_are_apart::<K, V, E>();
+    crate::stored_are_found::<K, V, E>();
+    crate::undisturbed_show::<K, V, E>();
 }

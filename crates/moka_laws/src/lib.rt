@@ -24,6 +24,7 @@ mod removals;
 mod sound;
 mod stored;
 mod waiting;
+mod walking;
 
 pub use alone::insert_then_get;
 pub use answered::{answered_is_posted, posted_stays, stored_is_committed};
@@ -65,5 +66,9 @@ pub use sound::{
     clock_keeps_sound, deciding_keeps_sound, entering_keeps_sound, fresh_is_sound,
     leaving_keeps_sound, reached_is_sound, telling_keeps_sound, visits_keep_sound,
 };
-pub use stored::{reached_by_lawful_run, stored_under_own_keys};
+pub use stored::{reached_by_lawful_run, stored_are_counted, stored_under_own_keys};
 pub use waiting::{live_calls_go_on, waits_by_cause};
+pub use walking::{
+    items_are_apart, items_are_found, items_are_walks, lists_are_started, looks_are_apart,
+    scans_show, stored_are_found, undisturbed_show,
+};

@@ -1,3 +1,4 @@
+pub mod Listings
 pub mod TableSteps
 pub mod Wanted
 pub mod Visited

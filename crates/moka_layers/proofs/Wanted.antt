@@ -1,15 +1,18 @@
 -- Which access is wanted, and what it finds begun.
-use Rattle.std.proofs.Common.{◌≡◌, ◌≤◌, ℕ, ◌+◌, Bool, true, false, cond, Option, Some, None, IfSome, IsSome, is_some, not, ◌&&◌, refl, sym, ap, subst, ◌∙◌, arith}
+use Rattle.std.proofs.Common.{◌≡◌, ◌≢◌, ◌≤◌, ℕ, ◌+◌, Bool, true, false, cond, Option, Some, None, IfSome, IsSome, is_some, not, ◌&&◌, refl, sym, ap, subst, ◌∙◌, arith}
 use Rattle.std.specs.declared.cmp.PartialEq as PartialEq
 use Rattle.std.specs.declared.hash.Hash as Hash
-use Rattle.moka_hist.specs.Bound.{times_of, most_undecided}
+use Rattle.moka_hist.specs.Bound.{stayed, times_of, most_undecided}
 use Rattle.moka_hist.specs.Conditions.{MayVisit}
 use Rattle.moka_hist.specs.Finite.{put_at}
-use Rattle.moka_hist.specs.State.{DeskPart, World}
-use Rattle.moka_hist.specs.Step.{Access, May}
+use Rattle.moka_hist.specs.State.{DeskPart, Listed, TablePart, World}
+use Rattle.moka_hist.specs.Step.{Access, Gets, May}
+use Rattle.moka_hist.specs.Tables.{Operates, begun, listings_begun}
 use Rattle.moka_hist.specs.Step as step
 use Rattle.moka_hist.specs.Visits.{finds, makes, judged, claimed, claimed_alone, is_unlocked_for, locked_by, settlement_for, readers_without, settled_without}
 use Rattle.moka_hist.specs.declared.tables.TableOp.{TableOp}
+use Rattle.moka_hist.specs.declared.tables.TableOp.TheVariants as op
+use Rattle.moka_hist.specs.declared.tables.TableTurn.TheVariants as table
 use Rattle.moka_hist.specs.declared.loads.Kind.TheVariants as kind
 use Rattle.moka_hist.specs.declared.visits.Visit.{Visit}
 use Rattle.moka_hist.specs.declared.visits.Visit.TheVariants as visit
@@ -25,7 +28,9 @@ use Rattle.moka_table.specs.declared.table.Table as Table
 use Rattle.moka_desk.specs.Moments.{is_shown}
 use Rattle.moka_desk.specs.StandsFor.{StandsFor}
 use Rattle.moka_desk.specs.declared.state.Desk.{Desk}
-use Rattle.moka_layers.specs.Layers.{GroundIs, Serves, account_of, left_in, most_on, operation_in}
+use Rattle.moka_layers.specs.Layers.{BegunIs, GroundIs, OthersStay, Serves, account_of, left_in, most_on, operation_in}
+use Rattle.moka_layers.specs.Listings.{ListingIs, ListsFor}
+use Rattle.moka_layers.proofs.Listings.{begun_other, begun_twice, lists_back, lists_begin, lists_there}
 use Rattle.moka_layers.specs.Visiting.{VisitBy, test_holds}
 use Rattle.moka_layers.specs.declared.layers.Layers.{Layers}
 
@@ -140,32 +145,126 @@ module _ {K V T C : Type 0} (t : Table.Ghosts T K V C) where
   some_begun None e = e
   some_begun (Some c) e = refl
 
+-- the world where the list is begun of a call that begins this operation
+abbrev pub with_list : {K V E : Type 0} → World K V E → ℕ → TableOp K V → World K V E
+with_list w n o = record w { table = begun w.table n o }
+
+one_operation : {K V : Type 0} {a b : TableOp K V} → Some a ≡ Some b → a ≡ b
+one_operation e = cc
+
+module _ {K V E : Type 0} (eq : K → K → Bool) where
+  -- what is given where the list was begun is given where it begins
+  pub gets_begun : (n : ℕ) (o : TableOp K V) (w : World K V E) (given : Got K V E) (after : World K V E) → Gets eq n (with_list w n o) (step.On_table o) given after
+      → Gets eq n w (step.On_table o) given after
+  gets_begun n o w (got.Table table.Going) after gets = (
+    gets.0,
+    gets.1 ∙ ap (λ (p : TablePart K V). record w { table = p; stay = stayed w.stay n }) (begun_twice w.table n o),
+  )
+  gets_begun n o w (got.Table (table.Decided answer)) after gets =
+      (gets.0, subst (λ (p : TablePart K V). Operates eq n p o answer gets.0) (begun_twice w.table n o) gets.1, gets.2)
+  gets_begun n o w (got.Desk f) after gets = gets
+
+module _ {K V E T C : Type 0} (t : Table.Ghosts T K V C) where
+  -- what another call has begun is there in both worlds
+  there : (table : T) (w : World K V E) (n m : ℕ) (o : TableOp K V) (b : Option C) → n ≢ m → BegunIs t table m b w.table w.stay
+      → BegunIs t table m b (begun w.table n o) w.stay
+  there table w n m o None apart was = record {
+    fits = was.fits;
+    within = was.within;
+    patient = was.patient;
+    listing = begun_other w.table n m o apart ∙ was.listing;
+  }
+  there table w n m o (Some c) apart was = record {
+    fits = was.fits;
+    within = was.within;
+    patient = was.patient;
+    listing = λ a is_a.
+        lists_there t table c w.table n o a (listings_begun w.table n o m)
+        (subst (λ (l : Option (Listed K)). ListsFor t table c w.table l a) (sym (begun_other w.table n m o apart)) (was.listing a is_a));
+  }
+
+  back : (table : T) (w : World K V E) (n m : ℕ) (o : TableOp K V) (b : Option C) → n ≢ m → BegunIs t table m b (begun w.table n o) w.stay
+      → BegunIs t table m b w.table w.stay
+  back table w n m o None apart was = record {
+    fits = was.fits;
+    within = was.within;
+    patient = was.patient;
+    listing = sym (begun_other w.table n m o apart) ∙ was.listing;
+  }
+  back table w n m o (Some c) apart was = record {
+    fits = was.fits;
+    within = was.within;
+    patient = was.patient;
+    listing = λ a is_a.
+        subst (λ (l : Option (Listed K)). ListsFor t table c w.table l a) (begun_other w.table n m o apart)
+        (lists_back t table c w.table n o a (listings_begun w.table n o m) (was.listing a is_a));
+  }
+
 module _ {K V E T C Q : Type 0} {same : PartialEq.Ghosts K} {hash : Hash.Ghosts K} (t : Table.Ghosts T K V C) (q : Tests.Ghosts Q K V) (eq : K → K → Bool) where
+  -- the calls of others are there as they were
+  pub others_begun : (layers new : Layers K V E T C Q same hash) (begun_call : Option C) (o : TableOp K V) (w after : World K V E)
+      → OthersStay t (record layers { begun = begun_call }) (with_list w layers.call o) new after → OthersStay t layers w new after
+  others_begun layers new begun_call o w after stay = λ m b apart was.
+      stay m b apart (there t layers.table w layers.call m o b apart was)
+
+  -- and where nothing was begun after all
+  pub others_still : (layers new : Layers K V E T C Q same hash) (begun_call : Option C) (o : TableOp K V) (w : World K V E)
+      → OthersStay t (record layers { begun = begun_call }) (with_list w layers.call o) new (with_list w layers.call o) → OthersStay t layers w new w
+  others_still layers new begun_call o w stay = λ m b apart was.
+      back t new.table w layers.call m o b apart (stay m b apart (there t layers.table w layers.call m o b apart was))
+
   -- the layers for a call that begins an operation
+  -- in the world where its list is begun, too
   pub begins : (layers : Layers K V E T C Q same hash) (c : C) (o : TableOp K V) (w : World K V E) → layers.begun ≡ None → t.operation_of c ≡ Some o → t.fits layers.table c
-      → t.left layers.table c ≤ most_on t layers.table → GroundIs eq t q layers w → GroundIs eq t q (record layers { begun = Some c }) w
-  begins layers c o w none is_o fits left h =
+      → t.left layers.table c ≤ most_on t layers.table
+      → ((p : ℕ) → o ≡ op.Keys p → (q : K) → t.listed layers.table c q → ⊥)
+      → ((p : ℕ) → o ≡ op.Keys p → (q : K) → t.part_of layers.table q ≡ p → t.covers layers.table c q)
+      → GroundIs eq t q layers w → GroundIs eq t q (record layers { begun = Some c }) (with_list w layers.call o)
+  begins layers c o w none is_o fits left no_key all h =
       let patient : times_of w.stay layers.call + most_on t layers.table ≤ most_undecided w.table =
       subst (λ (b : Option C). times_of w.stay layers.call + left_in t layers.table b ≤ most_undecided w.table) none h.begun.patient in
+      let unlisted : w.table.listings layers.call ≡ None =
+      subst (λ (b : Option C). ListingIs t layers.table b w.table (w.table.listings layers.call)) none h.begun.listing in
+      let is = h.world.table in
       record {
-        world = record { table = h.world.table; desk = h.world.desk; tests = h.world.tests; stay = h.world.stay };
+        world = record {
+          table = record { map = is.map; keys = is.keys; peak = is.peak; first = is.first; parts = is.parts; part_of = is.part_of };
+          desk = h.world.desk;
+          tests = h.world.tests;
+          stay = h.world.stay;
+        };
         begun = record {
           fits = (fits, subst (λ (x : Option (TableOp K V)). IsSome x) (sym is_o) refl);
           within = left;
           patient = omega (arith, patient, left);
+          listing = λ a is_a.
+              subst (λ (x : TableOp K V). ListsFor t layers.table c (begun w.table layers.call o) (listings_begun w.table layers.call o layers.call) x)
+              (one_operation (sym is_o ∙ is_a)) (lists_begin t layers.table c w.table layers.call o is.part_of unlisted no_key all);
         };
         given = h.given;
       }
 
   -- the layers where the operation ends that was begun without memory: none is begun, as before
   pub begins_none : (old new : Layers K V E T C Q same hash) (w : World K V E) → old.begun ≡ None → new.call ≡ old.call → most_on t new.table ≡ most_on t old.table
-      → GroundIs eq t q old w → GroundIs eq t q new w → GroundIs eq t q (record new { begun = None }) w
-  begins_none old new w none call most was h =
+      → (o : TableOp K V) → GroundIs eq t q old w → GroundIs eq t q new (with_list w old.call o) → GroundIs eq t q (record new { begun = None }) w
+  begins_none old new w none call most o was h =
       let patient : times_of w.stay old.call + most_on t old.table ≤ most_undecided w.table =
       subst (λ (b : Option C). times_of w.stay old.call + left_in t old.table b ≤ most_undecided w.table) none was.begun.patient in
+      let is = h.world.table in
       record {
-        world = record { table = h.world.table; desk = h.world.desk; tests = h.world.tests; stay = h.world.stay };
-        begun = record { fits = tt; within = omega arith; patient = rw (call, most) patient };
+        world = record {
+          table = record { map = is.map; keys = is.keys; peak = is.peak; first = is.first; parts = is.parts; part_of = is.part_of };
+          desk = h.world.desk;
+          tests = h.world.tests;
+          stay = h.world.stay;
+        };
+        begun = record {
+          fits = tt;
+          within = omega arith;
+          patient = rw (call, most) patient;
+          listing = ap (λ n. w.table.listings n) call
+              ∙ subst (λ (b : Option C). ListingIs t old.table b w.table (w.table.listings old.call)) none was.begun.listing;
+        };
         given = h.given;
       }
 
@@ -180,10 +279,12 @@ module _ {K V E T C Q : Type 0} {same : PartialEq.Ghosts K} {hash : Hash.Ghosts 
         call = told.call;
         begun = told.begun;
         tells = told.tells;
-        shortens = record {
-          within = told.shortens.within;
-          raises = told.shortens.raises;
-          going = λ e. let less = told.shortens.going e in omega (arith, less, left, most);
+        lists = told.lists;
+        shortens = λ keys. record {
+          within = (told.shortens keys).within;
+          raises = (told.shortens keys).raises;
+          going = λ e. let less = (told.shortens keys).going e in omega (arith, less, left, most);
+          keys = (told.shortens keys).keys;
         };
       }
 
@@ -221,7 +322,12 @@ module _ {K V E T C Q : Type 0} {same : PartialEq.Ghosts K} {hash : Hash.Ghosts 
             (m.0, refl),
             record {
               world = record { table = h.world.table; desk = m.1; tests = h.world.tests ∙ sym (tests_same eq w.desk v); stay = omega (arith, stay, last) };
-              begun = record { fits = tt; within = omega arith; patient = patient };
+              begun = record {
+                fits = tt;
+                within = omega arith;
+                patient = patient;
+                listing = subst (λ (b : Option C). ListingIs t table b w.table (w.table.listings n)) none h.begun.listing;
+              };
               given = omega (arith, given, last);
             },
             (λ m begun apart stays. stays),

@@ -19,6 +19,7 @@ use Rattle.moka_table.specs.declared.table.Table as Table
 use Rattle.moka_desk.specs.StandsFor as desk
 use Rattle.moka_desk.specs.Sizes.{owed_in, logged_in, room_in, has_ended}
 use Rattle.moka_init.specs.Grounds.{Account, MayWant, nothing_told}
+use Rattle.moka_layers.specs.Listings.{ListingIs}
 use Rattle.moka_layers.specs.Visiting.{handed_out}
 use Rattle.moka_layers.specs.declared.layers.Layers.{Layers}
 
@@ -30,6 +31,9 @@ pub record TableIs {K V T C : Type 0} (t : Table.Ghosts T K V C) (table : T)
   pub keys : t.count table ≡ part.keys
   pub peak : t.peak table ≤ part.peak
   pub first : t.first table ≡ 128
+  -- and its keys are divided alike
+  pub parts : t.divided table ≡ part.division.parts
+  pub part_of : (q : K) → t.part_of table q ≡ part.division.part_of q
 
 module _ {K V T C : Type 0} where
   -- the operation that was begun and hasn't decided
@@ -50,12 +54,13 @@ abbrev pub AlwaysDecides : {K V T C : Type 0} → Table.Ghosts T K V C → Type 
 AlwaysDecides {K} {V} {T} {C} t = (n : ℕ) × ((table : T) (call : C) → t.left table call ≡ n)
 
 -- What a call has begun on the table: it may go on with it, and does so for no longer than the
--- reference allows.
+-- reference allows. A list that it has begun is the reference's.
 pub record BegunIs {K V T C : Type 0} (t : Table.Ghosts T K V C) (table : T) (call : ℕ)
     (begun : Option C) (part : TablePart K V) (stay : Stay) : Type 0 where
   pub fits : IfSome begun (λ c. t.fits table c × IsSome (t.operation_of c))
   pub within : left_in t table begun ≤ most_on t table
   pub patient : times_of stay call + left_in t table begun ≤ most_undecided part
+  pub listing : ListingIs t table begun part (part.listings call)
 
 -- Table and desk are those of the world, and the tests answer as its desk has it. Who made its last
 -- step on the table had a number given out.
@@ -87,6 +92,7 @@ module _ {K V E T C Q : Type 0} {same : PartialEq.Ghosts K} {hash : Hash.Ghosts 
     left = left_in t layers.table layers.begun;
     most = most_on t layers.table;
     ended = has_ended layers.desk layers.call;
+    keys = 0;
   }
 
   -- what the layers tell of themselves; the accesses that were made they don't tell

@@ -1,3 +1,4 @@
+pub mod Listings
 pub mod Layers
 pub mod Visiting
 pub mod Counted

@@ -42,6 +42,13 @@ module _ {K V E : Type 0} {same : PartialEq.Ghosts K} {hash : Hash.Ghosts K} whe
         → (f ≡ found.Judge (not replaced && is_shown w stamp modified))
         × StandsFor eq new (judged w stamp modified (not replaced && is_shown w stamp modified))
 
+  -- the same of the visit that judges a record that a walk found, and changes nothing
+  pub record ScanIs (eq : K → K → Bool) (old : Desk K V E same hash) (stamp modified : ℕ)
+      (f : Found V E) (new : Desk K V E same hash) : Type 0 where
+    pub form : (seen : Bool) × (f ≡ found.Scan seen)
+    pub made : (w : DeskPart K V E) → StandsFor eq old w
+        → (f ≡ found.Scan (is_shown w stamp modified)) × StandsFor eq new w
+
   -- the same of the visit that judges whether such a record has still to leave for the cause
   pub record HoldsIs (eq : K → K → Bool) (old : Desk K V E same hash) (stamp modified : ℕ)
       (cause : Cause) (f : Found V E) (new : Desk K V E same hash) : Type 0 where

@@ -4,7 +4,7 @@ ghost use Rattle.moka_desk.specs.History.{KeepsAsBefore};
 ghost use Rattle.moka_desk.specs.StandsFor.{Can};
 ghost use Rattle.moka_desk.specs.Waits.{lock_line, settlement_line, turn_line};
 ghost use Rattle.moka_init.specs.Forms.{IsFoundBy};
-ghost use Rattle.moka_layers.specs.Visiting.{HoldsIs, JudgeIs, DeskStays, VisitLacks, VisitIs};
+ghost use Rattle.moka_layers.specs.Visiting.{HoldsIs, JudgeIs, ScanIs, DeskStays, VisitLacks, VisitIs};
 ghost use Rattle.moka_layers.specs.Visiting.{VisitBy, handed_out, test_holds};
 
 use moka_desk::Desk;
@@ -52,6 +52,7 @@ pub(crate) fn make_visit<K: Eq + Hash + Exact, V: Exact, E: Exact, Q: Tests<K, V
             key,
             stored,
         } => judge_by(desk, tests, replace, &key, &stored),
+        Visit::Scan { stored, .. } => Ok(scan(desk, stored.stamp, stored.modified)),
         Visit::Holds { stored, cause, .. } => {
             Ok(holds(desk, stored.stamp, stored.modified, cause))
         }
@@ -125,6 +126,20 @@ fn judge<K: Eq + Hash + Exact, V: Exact, E: Exact>(
 {
     let seen = desk.judge(replaced, stamp, modified)?;
     Ok(Found::Judge(seen))
+}
+
+// Judges a record that a walk found.
+#[cold]
+#[inline(never)]
+fn scan<K: Eq + Hash + Exact, V: Exact, E: Exact>(
+    desk: &mut Desk<K, V, E>,
+    stamp: u64,
+    modified: u64,
+) -> Found<V, E>
+    ensures visit { ScanIs K.eq desk.old stamp modified result desk.new }
+    ensures kept { KeepsAsBefore desk.old desk.new }
+{
+    Found::Scan(desk.scan(stamp, modified))
 }
 
 #[cold]

@@ -40,6 +40,7 @@ module _ {K V E : Type 0} where
   copies_need w (step.On_desk (visit.LockKey n key)) copies = tt
   copies_need w (step.On_desk (visit.OpenNotice n key value stamp modified cause upsert)) copies = tt
   copies_need w (step.On_desk (visit.Judge replace key stored)) copies = tt
+  copies_need w (step.On_desk (visit.Scan key stored)) copies = tt
   copies_need w (step.On_desk (visit.Holds key stored cause)) copies = tt
   copies_need w (step.On_desk (visit.WaitOrOwn n key kind)) copies = tt
   copies_need w (step.On_desk (visit.OwnAlone n key)) copies = tt

@@ -29,10 +29,10 @@ not_last stay last n is less = by (eqb_tells stay.call n)
 module _ {K V : Type 0} (eq : K → K → Bool) where
   -- a call that starts has begun nothing
   pub starts : (table : TheTable K V) (part : TablePart K V) (stay : Stay) (last n : ℕ) → TableIs (the_table eq) table part → stay.call ≤ last → last < n
-      → BegunIs (the_table eq) table n None part stay
-  starts table part stay last n is called less =
+      → part.listings n ≡ None → BegunIs (the_table eq) table n None part stay
+  starts table part stay last n is called less unlisted =
       let none = not_last stay last n called less in
-      record { fits = tt; within = omega arith; patient = omega (arith, none, is.peak) }
+      record { fits = tt; within = omega arith; patient = omega (arith, none, is.peak); listing = unlisted }
 
 module _ {K V E : Type 0} (eq : K → K → Bool) where
   -- a call that was started before another

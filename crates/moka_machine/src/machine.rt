@@ -36,6 +36,7 @@ impl<K: Eq + Hash + Exact, V: Exact, E: Exact, T: Tests<K, V> + Drop> Machine<K,
     ghost use Rattle.moka_hist.specs.State.{State, fresh};
     ghost use Rattle.moka_hist.specs.Settings.{refusal_of};
     ghost use Rattle.moka_machine.specs.Machine.{MachineIs, IsValid, ServesEvent, Stops};
+    ghost use Rattle.moka_machine.specs.TheTable.{the_division};
     ghost use Rattle.moka_machine.specs.WantOfMemory.{MayStopServing};
 
     /// Builds a fresh cache of these rules, with a log of this many writes, 1 to 65536, and these
@@ -47,7 +48,7 @@ impl<K: Eq + Hash + Exact, V: Exact, E: Exact, T: Tests<K, V> + Drop> Machine<K,
         requires least { 1 ≤ log }
         requires most { log ≤ 65536 }
         ensures fresh { IfOk result (λ m. MachineIs K.eq T.Tests m
-            (fresh K V E rules log (T.answers tests))) }
+            (fresh K V E (the_division K) rules log (T.answers tests))) }
         ensures valid { IfOk result (λ m. IsValid K.eq T.Tests m) }
         ensures refused { IfSome (refusal_of rules) (λ refusal. result ≡ Err refusal) }
         ensures memory { IfNone (refusal_of rules) (IfErr result (λ e. e ≡ BuildError.Memory)) }
@@ -66,7 +67,7 @@ impl<K: Eq + Hash + Exact, V: Exact, E: Exact, T: Tests<K, V> + Drop> Machine<K,
         requires least { 1 ≤ log }
         requires most { log ≤ 65536 }
         ensures fresh { IfOk result (λ m. MachineIs K.eq T.Tests m
-            (fresh K V E rules log (T.answers tests))) }
+            (fresh K V E (the_division K) rules log (T.answers tests))) }
         ensures valid { IfOk result (λ m. IsValid K.eq T.Tests m) }
     {
         let desk = Desk::new(alloc, rules, log)?;

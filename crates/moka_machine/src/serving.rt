@@ -7,6 +7,7 @@ use crate::calls::Running;
 use crate::machine::Machine;
 use moka_hist::{Mode, Refusal, Reply, Start, Tests, Told};
 use moka_init::{Flow, Unfinished};
+use moka_table::Table;
 use moka_values::Exact;
 use std::alloc::AllocError;
 use std::hash::Hash;
@@ -42,7 +43,7 @@ impl<K: Eq + Hash + Exact, V: Exact, E: Exact, T: Tests<K, V> + Drop> Machine<K,
             ServesEvent K.eq T.Tests self.old (Event.Start start.now) r self.new) }
         ensures err { OnErr result (KeepsState K.eq T.Tests self.old self.new) }
     {
-        let start = start.clone()?;
+        let start = copy_of(start)?;
         self.make_room()?;
         self.enter(start)
     }
@@ -62,9 +63,11 @@ impl<K: Eq + Hash + Exact, V: Exact, E: Exact, T: Tests<K, V> + Drop> Machine<K,
             ServesEvent K.eq T.Tests self.old (Event.Start start) r self.new) }
         ensures err { OnErr result (KeepsState K.eq T.Tests self.old self.new) }
     {
+        moka_laws::lists_are_started::<K, V, E>();
         let last = self.layers.desk.last();
         let next = last.saturating_add(1);
-        let flow = Flow::new(start, next, self.layers.desk.rules());
+        let rules = self.layers.desk.rules();
+        let flow = Flow::new(start, next, rules, self.layers.table.parts());
         let boxed = self.calls.boxed(flow)?;
         match self.layers.desk.enter() {
             None => Ok(Reply::Refused(Refusal::CallsSpent)),
@@ -183,4 +186,11 @@ pub(crate) fn unpolled<K, V, E>(
         Ok(reply) => Ok(reply),
         Err(_) => Err(Unfinished { steps: 0 }),
     }
+}
+
+// A copy of the start.
+fn copy_of<K: Exact, V: Exact>(start: &Start<K, V>) -> Result<Start<K, V>, AllocError>
+    ensures same { IfOk result (λ copy. copy ≡ start.now) }
+{
+    start.clone()
 }

@@ -141,6 +141,7 @@ impl<K: Eq + Hash + Exact, V: Exact, E: Exact, T: Tests<K, V> + Drop> Machine<K,
             Turn::Going => self.put_in_with(call, flow, Reply::Going),
             Turn::Wait => self.put_in_with(call, flow, Reply::Wait),
             Turn::Ask(ask) => self.put_in_with(call, flow, Reply::Ask(ask)),
+            Turn::Item(key, value) => self.put_in_with(call, flow, Reply::Item(key, value)),
         }
     }
 

@@ -3,11 +3,12 @@ use Rattle.std.proofs.Common.{◌≡◌, ℕ, ◌+◌, ◌-◌, Bool, true, fals
 use Rattle.moka_hist.specs.Finite.{put_key}
 use Rattle.moka_hist.specs.Tables.{answer_of, taken_by}
 use Rattle.moka_hist.specs.declared.records.Stored.{Stored}
-use Rattle.moka_hist.specs.declared.tables.TableOp.{TableOp}
-use Rattle.moka_hist.specs.declared.tables.TableOp.TheVariants as op
+use Rattle.moka_buckets.specs.KeyOps.{MovesKey}
+use Rattle.moka_buckets.specs.declared.key_op.KeyOp.{KeyOp}
+use Rattle.moka_buckets.specs.declared.key_op.KeyOp.TheVariants as op
 use Rattle.moka_hist.specs.declared.tables.TableTurn.{TableTurn}
 use Rattle.moka_hist.specs.declared.tables.TableTurn.TheVariants as turn
-use Rattle.moka_table.specs.Map.{Pairs, SameMap, Moves}
+use Rattle.moka_table.specs.Map.{Pairs, SameMap}
 use Rattle.moka_map.specs.Maps.{entry_of}
 
 -- functions that agree at q agree there whichever is chosen
@@ -20,7 +21,7 @@ module _ {K V : Type 0} (eq : K → K → Bool) (old mid : Pairs K V) (same : Sa
   put_same key q w = ap (cond (eq key q) w) (same q)
 
   -- an operation that decides after steps that left the map decides by the map before them
-  pub moves_same : (o : TableOp K V) (keys : ℕ) (t : TableTurn K V) (new : Pairs K V) (count : ℕ) → Moves eq o mid keys t new count → Moves eq o old keys t new count
+  pub moves_same : (o : KeyOp K V) (keys : ℕ) (t : TableTurn K V) (new : Pairs K V) (count : ℕ) → MovesKey eq o mid keys t new count → MovesKey eq o old keys t new count
   moves_same o keys turn.Going new count m = (λ q. m.0 q ∙ same q, m.1)
   moves_same (op.Get key) keys (turn.Decided a) new count m = (m.0 ∙ ap answer_of (same key), λ q. m.1 q ∙ same q, m.2)
   moves_same (op.InsertOrModify key stored) keys (turn.Decided a) new count m =

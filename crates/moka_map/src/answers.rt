@@ -1,13 +1,13 @@
 //! The pairs of the table's answers, and what closures give of them.
 
-ghost use Rattle.std.specs.Prelude.{◌≡◌, Option};
+ghost use Rattle.std.specs.Prelude.{◌≡◌, None, Option};
 ghost use Rattle.std.specs.Option.{option_map};
 ghost use Rattle.moka_hist.specs.Tables.{answer_of};
 ghost use Rattle.moka_hist.specs.declared.records.Stored.{Stored};
 ghost use Rattle.moka_map.specs.Maps.{entry_of};
 ghost use Rattle.moka_map.specs.Calls.{GivesOf};
 
-use moka_hist::TableAnswer;
+use moka_hist::{KeyList, TableAnswer};
 
 /// Gives the pair of a table's answer, if it has one.
 pub fn pair_in<K: Drop, V: Drop>(answer: TableAnswer<K, V>) -> Option<(K, V)>
@@ -16,7 +16,15 @@ pub fn pair_in<K: Drop, V: Drop>(answer: TableAnswer<K, V>) -> Option<(K, V)>
     match answer {
         TableAnswer::None => None,
         TableAnswer::Some { key, stored } => Some((key, stored.value)),
+        TableAnswer::Keys(keys) => none_of(keys),
     }
+}
+
+// A list of keys has no pair.
+fn none_of<K: Drop, V: Drop>(_keys: KeyList<K>) -> Option<(K, V)>
+    ensures { result ≡ None }
+{
+    None
 }
 
 /// Calls the closure on the pair, if there is one, and gives what it answers.

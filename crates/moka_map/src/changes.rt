@@ -8,7 +8,8 @@ ghost use Rattle.moka_map.specs.Maps.{Puts, Removes, Stays, entries, hash_for};
 use crate::HashMap;
 use crate::answers::pair_in;
 use crate::running::run;
-use moka_hist::{Stored, TableOp};
+use moka_buckets::KeyOp;
+use moka_hist::Stored;
 use moka_table::Table;
 use moka_values::Exact;
 use std::alloc::AllocError;
@@ -93,7 +94,7 @@ impl<K: Eq + Hash + Exact, V: Exact, S: BuildHasher + Drop> HashMap<K, V, S> {
             stamp: 0,
             modified: 0,
         };
-        let operation = TableOp::InsertOrModify { key, stored };
+        let operation = KeyOp::InsertOrModify { key, stored };
         let before = run(&mut self.table, hash, operation)?;
         Ok(pair_in(before))
     }
@@ -111,7 +112,7 @@ impl<K: Eq + Hash + Exact, V: Exact, S: BuildHasher + Drop> HashMap<K, V, S> {
         ensures err { OnErr result (Stays S.BuildHasher S.Hasher.Hasher K.eq K.hash_input
             self.old self.new) }
     {
-        let operation = TableOp::RemoveIf { key, stamp: None };
+        let operation = KeyOp::RemoveIf { key, stamp: None };
         let before = run(&mut self.table, hash, operation)?;
         Ok(pair_in(before))
     }

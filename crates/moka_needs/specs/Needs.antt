@@ -28,6 +28,7 @@ module _ {K V E : Type 0} where
   need_of (visit.OpenNotice n key value stamp modified cause upsert) = need.OpenNotice
   need_of (visit.StampMoment n) = need.StampMoment
   need_of (visit.Judge replace key stored) = need.Judge
+  need_of (visit.Scan key stored) = need.Scan
   need_of (visit.Holds key stored cause) = need.Holds
   need_of (visit.WaitOrOwn n key kind) = need.WaitOrOwn (record { key = key; kind = kind })
   need_of (visit.OwnAlone n key) = need.OwnAlone
@@ -41,7 +42,7 @@ module _ {K V E : Type 0} where
   need_of (visit.EndTurn n) = need.EndTurn
   need_of visit.InvalidateAll = need.InvalidateAll
 
-  -- the visit is one of this call; three kinds of visits don't name theirs
+  -- the visit is one of this call; four kinds of visits don't name theirs
   abbrev pub IsOfCall : ℕ → Visit K V E → Type 0
   IsOfCall call (visit.Clock n) = n ≡ call
   IsOfCall call (visit.TakeOwed n) = n ≡ call
@@ -51,6 +52,7 @@ module _ {K V E : Type 0} where
   IsOfCall call (visit.OpenNotice n key value stamp modified cause upsert) = n ≡ call
   IsOfCall call (visit.StampMoment n) = n ≡ call
   IsOfCall call (visit.Judge replace key stored) = Unit {0}
+  IsOfCall call (visit.Scan key stored) = Unit {0}
   IsOfCall call (visit.Holds key stored cause) = Unit {0}
   IsOfCall call (visit.WaitOrOwn n key kind) = n ≡ call
   IsOfCall call (visit.OwnAlone n key) = n ≡ call

@@ -23,6 +23,7 @@ pub enum Need<K> {
     UnlockKey { wrote: bool },
     StampMoment,
     Judge,
+    Scan,
     Holds,
     WaitOrOwn { load: Load<K> },
     OwnAlone,

@@ -38,11 +38,12 @@ and each other line is an event:
   start invalidate KEY       a call takes the key's record out
   start remove KEY           a call takes the key's record out, and answers its value
   start invalidate_all       a call hides all records that were written before the clock
+  start iter                 a call walks: it gives the records that a look shows, one at a time
   start evict KEY STAMP CAUSE
                              a call takes the key's record out, where it is the one of this stamp
                              and has to leave for this cause: Expired, Explicit, Replaced or Size
   step CALL                  the call makes one step
-  poll CALL                  the call makes steps until it waits, asks or answers
+  poll CALL                  the call makes steps until it waits, asks, gives a record or answers
   tell CALL value VALUE      the open ask of the call is told the value of its load or upsert
   tell CALL nothing          the open ask of an optional is told that there is none
   tell CALL error ERROR      the open ask of a try, a try_compute or a compute_alone is told why it

@@ -19,6 +19,7 @@ use Rattle.moka_hist.specs.declared.replies.Reply.{Reply}
 use Rattle.moka_hist.specs.declared.replies.Reply.TheVariants as reply
 use Rattle.moka_laws.proofs.Counting.{none_some, some_same}
 use Rattle.moka_machine.specs.Machine.{MachineIs, Stops}
+use Rattle.moka_machine.specs.TheTable.{the_division}
 use Rattle.moka_machine.specs.WantOfMemory.{MayStopServing}
 use Rattle.moka_machine.specs.declared.machine.Machine.{Machine}
 use Rattle.moka_small.specs.declared.outcome.Outcome.{Outcome}
@@ -246,13 +247,15 @@ module _ {K V E : Type 0} {same : PartialEq.Ghosts K} {hash : Hash.Ghosts K} (eq
 -- a fresh machine is seen as the empty small state
 pub builds : {K V E : Type 0} {same : PartialEq.Ghosts K} {hash : Hash.Ghosts K} (eq : K → K → Bool)
     (machine : Machine K V E NoTests same hash) (capacity : Option ℕ) (log : ℕ) → FreshIsEmpty K V E eq →
-    capacity ≢ Some 0 → 1 ≤ log → MachineIs eq no_tests machine (fresh K V E (rules_of capacity) log no_test) →
+    capacity ≢ Some 0 → 1 ≤ log → MachineIs eq no_tests machine (fresh K V E (the_division K) (rules_of capacity) log no_test) →
     IsPolled eq (record { machine = machine; spent = false }) (empty capacity)
 builds {K} {V} {E} eq machine capacity log law stores least stands = record {
   unspent = refl;
-  state = fresh K V E (rules_of capacity) log no_test;
+  state = fresh K V E (the_division K) (rules_of capacity) log no_test;
   stands = stands;
-  seen = law capacity log no_test (omega (arith, least)) (by capacity stores);
+  seen = law (the_division K) capacity log no_test
+      (record { some = omega arith; few = omega arith; part = λ q. omega arith; alike = λ a b e. refl })
+      (omega (arith, least)) (by capacity stores);
 }
   where
     by : (most : Option ℕ) → most ≢ Some 0 → is_disabled (rules_of most) ≡ false

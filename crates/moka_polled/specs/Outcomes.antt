@@ -7,7 +7,8 @@ use Rattle.moka_hist.specs.declared.replies.Reply.TheVariants as reply
 use Rattle.moka_small.specs.declared.outcome.Outcome.{Outcome}
 use Rattle.moka_small.specs.declared.outcome.Outcome.TheVariants as outcome
 
--- the outcome of a poll that answered so: none where a compute answered, or a call gave up
+-- the outcome of a poll that answered so: none where a compute answered, a call gave up, or a walk
+-- ended
 abbrev pub outcome_by : {K V E : Type 0} → Answer K V E → Option (Outcome V E)
 outcome_by answer.Done = Some outcome.Done
 outcome_by (answer.Found found) = Some (outcome.Found found)
@@ -19,6 +20,7 @@ outcome_by (answer.ComputeErr error) = None
 outcome_by answer.RetriesExhausted = None
 outcome_by answer.Evicted = Some outcome.Evicted
 outcome_by answer.Kept = Some outcome.Kept
+outcome_by answer.End = None
 
 -- and of one that replied so: none where the reply is no poll's
 abbrev pub outcome_in : {K V E : Type 0} → Reply K V E → Option (Outcome V E)
@@ -28,6 +30,7 @@ outcome_in reply.Going = None
 outcome_in reply.Wait = Some outcome.Waits
 outcome_in (reply.Ask asked) = Some outcome.Asks
 outcome_in (reply.Answer answer) = outcome_by answer
+outcome_in (reply.Item key value) = None
 outcome_in reply.Told = None
 outcome_in reply.Dropped = None
 outcome_in (reply.Refused why) = None
@@ -40,6 +43,7 @@ says_told reply.Going = false
 says_told reply.Wait = false
 says_told (reply.Ask asked) = false
 says_told (reply.Answer answer) = false
+says_told (reply.Item key value) = false
 says_told reply.Told = true
 says_told reply.Dropped = false
 says_told (reply.Refused why) = false
@@ -52,6 +56,7 @@ call_in reply.Going = None
 call_in reply.Wait = None
 call_in (reply.Ask asked) = None
 call_in (reply.Answer answer) = None
+call_in (reply.Item key value) = None
 call_in reply.Told = None
 call_in reply.Dropped = None
 call_in (reply.Refused why) = None

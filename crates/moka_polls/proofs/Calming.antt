@@ -1,10 +1,10 @@
 -- A whole poll leaves a calm cache calm.
-use Rattle.std.proofs.Common.{◌≡◌, ◌+◌, ◌==◌, ℕ, Bool, true, false, cond, List, [], ◌∷◌, Option, Some, None, refl, sym, ap, ◌∙◌, subst}
+use Rattle.std.proofs.Common.{◌≡◌, ◌+◌, ◌==◌, ℕ, Bool, true, false, cond, List, [], ◌∷◌, ◌++◌, map, Option, Some, None, refl, sym, ap, ◌∙◌, subst}
 use Rattle.std.proofs.lemmas.Bool.{false≢true}
 use Rattle.moka_hist.specs.State.{World, Call, DeskPart, TablePart}
 use Rattle.moka_hist.specs.Plan.{Item, Aim, Change, Removal, is_disabled, load_rest, loaded, put, take_out, told_on}
 use Rattle.moka_hist.specs.Plan as plan
-use Rattle.moka_hist.specs.Next.{Next, goes, waits, asks, answers}
+use Rattle.moka_hist.specs.Next.{Next, goes, waits, gives, asks, answers}
 use Rattle.moka_hist.specs.Looking.{misses, hits, shown, finds_pair, chosen_or_not, kept_rest}
 use Rattle.moka_hist.specs.Loading.{after_read, after_told, retries}
 use Rattle.moka_hist.specs.Computing.{after_read_key, after_told_op, end_compute, put_told}
@@ -46,6 +46,12 @@ module _ {K V E : Type 0} where
       rules.listener ≡ false → HoldsNothing rest → HoldsNothing (put rules key value rest)
   put_holds rules key value rest unheard h =
       plain_put HoldsNothing rules key value rest unheard (tt, (tt, h))
+
+  -- so do the looks for listed keys
+  finds_hold : (keys : List K) (rest : List (Item K V E)) → HoldsNothing rest →
+      HoldsNothing (map plan.Find keys ++ rest)
+  finds_hold [] rest h = h
+  finds_hold (key ∷ keys) rest h = (tt, finds_hold keys rest h)
 
   said_holds : (removal : Removal K) (a : Answer K V E) → HoldsNothing (said removal a)
   said_holds plan.To_invalidate a = (tt, tt)
@@ -144,6 +150,15 @@ module _ {K V E : Type 0} (eq : K → K → Bool) (n : ℕ) (rules : Rules)
   asks_so : (w : World K V E) (b : Call K V E) (asked : Ask K V) (rest : List (Item K V E)) →
       b.rules ≡ rules → HoldsNothing rest → Still w → Comes Phase Fin w (asks b asked rest)
   asks_so w b asked rest these h still = comes b these w _ (stops b Plans Fin w _ (λ f. cc) (record {
+    still = still;
+    rest = λ d e. subst (IsAtRest rules) (some_same e)
+        (record { rules = these; mode = λ f. cc; plan = h });
+  }))
+
+  -- it gives a record
+  gives_so : (w : World K V E) (b : Call K V E) (key : K) (value : V) (rest : List (Item K V E)) →
+      b.rules ≡ rules → HoldsNothing rest → Still w → Comes Phase Fin w (gives b key value rest)
+  gives_so w b key value rest these h still = comes b these w _ (stops b Plans Fin w _ (λ f. cc) (record {
     still = still;
     rest = λ d e. subst (IsAtRest rules) (some_same e)
         (record { rules = these; mode = λ f. cc; plan = h });
@@ -400,6 +415,19 @@ module _ {K V E : Type 0} (eq : K → K → Bool) (n : ℕ) (rules : Rules)
       go _ b rest these h (same w _ refl refl refl still)
   item_steps w b plan.Invalidate_all rest these p i h still =
       go _ b rest these h (same w _ refl refl refl still)
+  item_steps w b (plan.List_keys part) rest these p i h still = (
+    λ more. undecided _ b these p (same w _ refl refl refl still),
+    λ listed keys is given. go _ b (map plan.Find keys ++ rest) these (finds_hold keys rest h)
+        (same w _ refl refl refl still),
+  )
+  item_steps w b (plan.Find key) rest these p i h still = (
+    λ more. undecided _ b these p (same w _ refl refl refl still),
+    λ none. go _ b rest these h (same w _ refl refl refl still),
+    λ there stored some. go _ b (plan.Scan there stored ∷ rest) these (tt, h)
+        (same w _ refl refl refl still),
+  )
+  item_steps w b (plan.Scan there stored) rest these p i h still =
+      (λ seen. gives_so w b there stored.value rest these h still, λ unseen. go w b rest these h still)
   item_steps w b (plan.Reply a) rest these p i h still =
       replies _ b a these (same w _ refl refl refl still)
   item_steps w b _ rest these p i h still = absurd i

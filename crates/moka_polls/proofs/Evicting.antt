@@ -27,7 +27,7 @@ use Rattle.moka_polls.proofs.Taking.{Takes, Stamps, out_of, takes_steps}
 module _ {K V E : Type 0} (eq : K → K → Bool) (s : State K V E) (n : ℕ) (key : K) (stamp : ℕ)
     (cause : Cause) (quiet : IsQuiet s.world.desk) where
   abbrev Begun : Call K V E
-  Begun = fresh_call s.world.desk.rules (start.Evict key stamp cause)
+  Begun = fresh_call s.world.table.division.parts s.world.desk.rules (start.Evict key stamp cause)
 
   abbrev t : TablePart K V
   t = s.world.table
@@ -137,7 +137,7 @@ module _ {K V E : Type 0} (eq : K → K → Bool) (s : State K V E) (n : ℕ) (k
       out : out_of t removal key ≡ Some (there, found)
       out = ap (taken_by (Some stamp)) e ∙ ap (λ b. cond b (Some (there, found)) None) is
 
-  begins : Phase s.world (plan_of s.world.desk.rules (start.Evict key stamp cause))
+  begins : Phase s.world (plan_of s.world.table.division.parts s.world.desk.rules (start.Evict key stamp cause))
   begins = subst
       (λ b. Phase s.world (under_lock b key (look (plan.To_evict key stamp cause) key)))
       (sym quiet.plain.unheard) (Seeks (record { table = refl; desk = refl }))
@@ -147,5 +147,5 @@ module _ {K V E : Type 0} (eq : K → K → Bool) where
   evicts s new n key stamp cause r quiet begun happens =
       poll_gives (Begun eq s n key stamp cause quiet) (Phase eq s n key stamp cause quiet)
       (end eq s n key stamp cause quiet) eq n (steps eq s n key stamp cause quiet) s new mode.Fresh
-      (plan_of s.world.desk.rules (start.Evict key stamp cause)) r begun
+      (plan_of s.world.table.division.parts s.world.desk.rules (start.Evict key stamp cause)) r begun
       (begins eq s n key stamp cause quiet) happens

@@ -18,7 +18,7 @@ use Rattle.moka_polls.proofs.Looking.{Looks, Drains, looks_steps}
 module _ {K V E : Type 0} (eq : K → K → Bool) (s : State K V E) (n : ℕ) (key : K)
     (quiet : IsQuiet s.world.desk) where
   abbrev Begun : Call K V E
-  Begun = fresh_call s.world.desk.rules (start.Get key)
+  Begun = fresh_call s.world.table.division.parts s.world.desk.rules (start.Get key)
 
   abbrev end : End K V E
   end = record {
@@ -56,7 +56,7 @@ module _ {K V E : Type 0} (eq : K → K → Bool) (s : State K V E) (n : ℕ) (k
       Happens eq Any s (event.Poll n) r new →
       PollGives s n end.reply end.left end.table end.desk r new
   gives new r begun happens =
-      poll_gives Begun Phase end eq n steps s new mode.Fresh (plan_of s.world.desk.rules (start.Get key)) r begun
+      poll_gives Begun Phase end eq n steps s new mode.Fresh (plan_of s.world.table.division.parts s.world.desk.rules (start.Get key)) r begun
       (subst (λ b. Phase s.world (get_plan b key)) (sym quiet.plain.stores) (Drains (record { table = refl; desk = refl }))) happens
 
 module _ {K V E : Type 0} (eq : K → K → Bool) where

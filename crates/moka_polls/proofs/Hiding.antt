@@ -16,7 +16,7 @@ use Rattle.moka_polls.proofs.Phases.{IsAsIt, End, Ends, Goes, Steps, along, poll
 
 module _ {K V E : Type 0} (eq : K → K → Bool) (s : State K V E) (n : ℕ) where
   abbrev Begun : Call K V E
-  Begun = fresh_call s.world.desk.rules start.InvalidateAll
+  Begun = fresh_call s.world.table.division.parts s.world.desk.rules start.InvalidateAll
 
   abbrev end : End K V E
   end = record {
@@ -46,5 +46,5 @@ module _ {K V E : Type 0} (eq : K → K → Bool) where
   pub hides_all : InvalidateAllPoll K V E eq
   hides_all s new n r begun happens =
       poll_gives (Begun eq s n) (Phase eq s n) (end eq s n) eq n (steps eq s n) s new mode.Fresh
-      (plan_of s.world.desk.rules start.InvalidateAll) r begun
+      (plan_of s.world.table.division.parts s.world.desk.rules start.InvalidateAll) r begun
       (Hides (record { table = refl; desk = refl })) happens

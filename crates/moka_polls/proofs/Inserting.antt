@@ -18,7 +18,7 @@ use Rattle.moka_polls.proofs.Putting.{Puts, Drains, plain_put, puts_steps}
 module _ {K V E : Type 0} (eq : K → K → Bool) (s : State K V E) (n : ℕ) (key : K) (value : V)
     (quiet : IsQuiet s.world.desk) where
   abbrev Begun : Call K V E
-  Begun = fresh_call s.world.desk.rules (start.Insert key value)
+  Begun = fresh_call s.world.table.division.parts s.world.desk.rules (start.Insert key value)
 
   abbrev end : End K V E
   end = record {
@@ -45,7 +45,7 @@ module _ {K V E : Type 0} (eq : K → K → Bool) (s : State K V E) (n : ℕ) (k
       PollGives s n end.reply end.left end.table end.desk r new
   gives new r begun happens =
       poll_gives Begun Phase end eq n steps s new mode.Fresh
-      (plan_of s.world.desk.rules (start.Insert key value)) r begun
+      (plan_of s.world.table.division.parts s.world.desk.rules (start.Insert key value)) r begun
       (subst (λ b. Phase s.world (insert_plan b s.world.desk.rules key value))
       (sym quiet.plain.stores)
       (plain_put (Phase s.world) s.world.desk.rules key value done quiet.plain.unheard

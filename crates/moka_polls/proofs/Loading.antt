@@ -24,17 +24,17 @@ use Rattle.moka_polls.proofs.Phases.{IsAsIt, End, Ends, Goes, Steps, along, at_a
 use Rattle.moka_polls.proofs.Looking.{Looks, Drains, Seeks, looks_steps}
 
 -- the plan of a call that loads
-loads_plan : {K V E : Type 0} (rules : Rules) (start : Start K V) (sought : Sought K) →
-    sought_by start ≡ Some sought → plan_of {E = E} rules start ≡ load_plan (is_disabled rules) sought
-loads_plan rules (start.GetWith key replace) sought e = ap (load_plan (is_disabled rules)) (some_same e)
-loads_plan rules (start.Optional key) sought e = ap (load_plan (is_disabled rules)) (some_same e)
-loads_plan rules (start.Try key) sought e = ap (load_plan (is_disabled rules)) (some_same e)
-loads_plan rules _ sought e = cc
+loads_plan : {K V E : Type 0} (parts : ℕ) (rules : Rules) (start : Start K V) (sought : Sought K) →
+    sought_by start ≡ Some sought → plan_of {E = E} parts rules start ≡ load_plan (is_disabled rules) sought
+loads_plan parts rules (start.GetWith key replace) sought e = ap (load_plan (is_disabled rules)) (some_same e)
+loads_plan parts rules (start.Optional key) sought e = ap (load_plan (is_disabled rules)) (some_same e)
+loads_plan parts rules (start.Try key) sought e = ap (load_plan (is_disabled rules)) (some_same e)
+loads_plan parts rules _ sought e = cc
 
 module _ {K V E : Type 0} (eq : K → K → Bool) (s : State K V E) (n : ℕ) (start : Start K V)
     (sought : Sought K) (quiet : IsQuiet s.world.desk) (is : sought_by start ≡ Some sought) where
   abbrev Begun : Call K V E
-  Begun = fresh_call s.world.desk.rules start
+  Begun = fresh_call s.world.table.division.parts s.world.desk.rules start
 
   -- what the load sees
   abbrev seen : Option V
@@ -44,9 +44,9 @@ module _ {K V E : Type 0} (eq : K → K → Bool) (s : State K V E) (n : ℕ) (s
   abbrev Looking : World K V E → List (Item K V E) → Type 0
   Looking = Looks s.world.table s.world.desk (plan.To_load sought) sought.load.key
 
-  begins : Looking s.world (plan_of s.world.desk.rules start)
+  begins : Looking s.world (plan_of s.world.table.division.parts s.world.desk.rules start)
   begins = subst (Looking s.world)
-      (sym (loads_plan s.world.desk.rules start sought is ∙
+      (sym (loads_plan s.world.table.division.parts s.world.desk.rules start sought is ∙
       ap (λ b. load_plan b sought) quiet.plain.stores))
       (Drains (record { table = refl; desk = refl }))
 
@@ -186,7 +186,7 @@ module _ {K V E : Type 0} (eq : K → K → Bool) where
   load_hits s new n start sought value r quiet begun is sees happens =
       poll_gives (Begun eq s n start sought quiet is) (Looking eq s n start sought quiet is)
       (hit eq s n start sought quiet is value) eq n (hit_steps eq s n start sought quiet is value sees)
-      s new mode.Fresh (plan_of s.world.desk.rules start) r begun
+      s new mode.Fresh (plan_of s.world.table.division.parts s.world.desk.rules start) r begun
       (begins eq s n start sought quiet is) happens
 
   pub load_asks : LoadAsks K V E eq
@@ -194,7 +194,7 @@ module _ {K V E : Type 0} (eq : K → K → Bool) where
       poll_gives (Begun eq s n start sought quiet is) (Asks eq s n start sought quiet is)
       (asked eq s n start sought quiet is) eq n
       (asks_steps eq s n start sought quiet is unseen free) s new mode.Fresh
-      (plan_of s.world.desk.rules start) r begun
+      (plan_of s.world.table.division.parts s.world.desk.rules start) r begun
       (Looks_first _ (begins eq s n start sought quiet is)) happens
 
   pub load_waits : LoadWaits K V E eq
@@ -202,5 +202,5 @@ module _ {K V E : Type 0} (eq : K → K → Bool) where
       poll_gives (Begun eq s n start sought quiet is) (Waits eq s n start sought quiet is owner)
       (waits_for eq s n start sought quiet is owner) eq n
       (waits_steps eq s n start sought quiet is owner unseen owned runs) s new mode.Fresh
-      (plan_of s.world.desk.rules start) r begun
+      (plan_of s.world.table.division.parts s.world.desk.rules start) r begun
       (Looks_up _ (begins eq s n start sought quiet is)) happens

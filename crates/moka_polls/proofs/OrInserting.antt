@@ -19,7 +19,7 @@ use Rattle.moka_polls.proofs.Putting.{Puts, Drains as Puts_drains, plain_put, pu
 module _ {K V E : Type 0} (eq : K → K → Bool) (s : State K V E) (n : ℕ) (key : K) (value : V)
     (quiet : IsQuiet s.world.desk) where
   abbrev Begun : Call K V E
-  Begun = fresh_call s.world.desk.rules (start.OrInsert key value)
+  Begun = fresh_call s.world.table.division.parts s.world.desk.rules (start.OrInsert key value)
 
   abbrev aim : Aim K V
   aim = plan.To_insert key value
@@ -83,7 +83,7 @@ module _ {K V E : Type 0} (eq : K → K → Bool) (s : State K V E) (n : ℕ) (k
       (record { replies = refl; leaves = refl; found = at })) w m p puts
 
   begins : Looks s.world.table s.world.desk aim key s.world
-      (plan_of s.world.desk.rules (start.OrInsert key value))
+      (plan_of s.world.table.division.parts s.world.desk.rules (start.OrInsert key value))
   begins = subst
       (λ b. Looks s.world.table s.world.desk aim key s.world (or_insert_plan b key value))
       (sym quiet.plain.stores) (Drains (record { table = refl; desk = refl }))
@@ -95,7 +95,7 @@ module _ {K V E : Type 0} (eq : K → K → Bool) where
       (Looks s.world.table s.world.desk (aim eq s n key value quiet) key)
       (hit eq s n key value quiet there) eq n
       (hit_steps eq s n key value quiet there is) s new
-      mode.Fresh (plan_of s.world.desk.rules (start.OrInsert key value)) r begun
+      mode.Fresh (plan_of s.world.table.division.parts s.world.desk.rules (start.OrInsert key value)) r begun
       (begins eq s n key value quiet) happens
 
   pub or_insert_stores : OrInsertStores K V E eq
@@ -103,5 +103,5 @@ module _ {K V E : Type 0} (eq : K → K → Bool) where
       poll_gives (Begun eq s n key value quiet) (Phase eq s n key value quiet)
       (stored eq s n key value quiet) eq n
       (stored_steps eq s n key value quiet is) s new
-      mode.Fresh (plan_of s.world.desk.rules (start.OrInsert key value)) r begun
+      mode.Fresh (plan_of s.world.table.division.parts s.world.desk.rules (start.OrInsert key value)) r begun
       (Looks_up _ (begins eq s n key value quiet)) happens

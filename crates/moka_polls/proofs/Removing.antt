@@ -59,7 +59,7 @@ module _ {K V E : Type 0} (eq : K → K → Bool) (s : State K V E) (n : ℕ) (k
   }
 
   abbrev Invalidates : Call K V E
-  Invalidates = fresh_call s.world.desk.rules (start.Invalidate key)
+  Invalidates = fresh_call s.world.table.division.parts s.world.desk.rules (start.Invalidate key)
 
   invalidate_steps : Steps Invalidates (Phase plan.To_invalidate) (Ends (end answer.Done)) eq n
   invalidate_steps =
@@ -72,7 +72,7 @@ module _ {K V E : Type 0} (eq : K → K → Bool) (s : State K V E) (n : ℕ) (k
       (record { replies = refl; leaves = refl; found = is_after _ some w at }))
 
   abbrev Removes : Call K V E
-  Removes = fresh_call s.world.desk.rules (start.Remove key)
+  Removes = fresh_call s.world.table.division.parts s.world.desk.rules (start.Remove key)
 
   abbrev removed_end : End K V E
   removed_end = end (answer.Found (value_at s key))

@@ -1,9 +1,9 @@
 -- Each whole event leaves a calm cache calm.
 use Rattle.std.specs.Option.{option_map, option_to_list}
-use Rattle.std.proofs.Common.{◌≡◌, ◌==◌, ◌+◌, ◌++◌, nat_lt, ℕ, Bool, true, false, cond, List, [], ◌∷◌, Option, Some, None, MatchBool, MatchOption, refl, sym, ap, ◌∙◌, subst}
+use Rattle.std.proofs.Common.{◌≡◌, ◌==◌, ◌+◌, ◌++◌, nat_lt, ℕ, zero, suc, Bool, true, false, cond, List, [], ◌∷◌, Option, Some, None, MatchBool, MatchOption, refl, sym, ap, ◌∙◌, subst}
 use Rattle.moka_hist.specs.Finite.{put_at}
 use Rattle.moka_hist.specs.State.{State, Call, DeskPart}
-use Rattle.moka_hist.specs.Plan.{Item, get_plan, held_by, hearing, insert_plan, is_disabled, load_plan, look, or_insert_plan, plan_of, seek, under_lock}
+use Rattle.moka_hist.specs.Plan.{Item, get_plan, held_by, hearing, insert_plan, is_disabled, iter_plan, load_plan, look, or_insert_plan, plan_of, seek, under_lock, walk_from}
 use Rattle.moka_hist.specs.Plan as plan
 use Rattle.moka_hist.specs.Dropping.{dropped, owed_by, owed_with}
 use Rattle.moka_hist.specs.Telling.{is_asked, told}
@@ -31,7 +31,7 @@ use Rattle.moka_polls.proofs.Phases.{poll_ends}
 use Rattle.moka_polls.proofs.Calming.{Phase, Fin, Rests, calm_steps, put_holds, take_out_holds}
 
 pub fresh_calm : {K V E : Type 0} → FreshIsCalm K V E
-fresh_calm rules size tests unheard = record {
+fresh_calm division rules size tests unheard = record {
   unheard = unheard;
   free = refl;
   owes = refl;
@@ -73,28 +73,37 @@ or_insert_holds : {K V : Type 0} (E : Type 0) (b : Bool) (key : K) (value : V) �
 or_insert_holds E true key value = (tt, (tt, tt))
 or_insert_holds E false key value = (tt, (tt, tt))
 
-begun_holds : {K V : Type 0} (E : Type 0) (rules : Rules) (begun : Start K V) →
-    rules.listener ≡ false → HoldsNothing (plan_of {E = E} rules begun)
-begun_holds {K = K} {V = V} E rules (start.Get key) unheard = get_holds V E (is_disabled rules) key
-begun_holds {K = K} {V = V} E rules (start.Insert key value) unheard =
+walk_holds : (K V E : Type 0) (part left : ℕ) → HoldsNothing (walk_from {K = K} {V = V} {E = E} part left)
+walk_holds K V E part zero = (tt, tt)
+walk_holds K V E part (suc left) = (tt, walk_holds K V E (part + 1) left)
+
+iter_holds : (K V E : Type 0) (b : Bool) (parts : ℕ) → HoldsNothing (iter_plan {K = K} {V = V} {E = E} b parts)
+iter_holds K V E true parts = (tt, tt)
+iter_holds K V E false parts = walk_holds K V E 0 parts
+
+begun_holds : {K V : Type 0} (E : Type 0) (parts : ℕ) (rules : Rules) (begun : Start K V) →
+    rules.listener ≡ false → HoldsNothing (plan_of {E = E} parts rules begun)
+begun_holds {K = K} {V = V} E parts rules (start.Get key) unheard = get_holds V E (is_disabled rules) key
+begun_holds {K = K} {V = V} E parts rules (start.Insert key value) unheard =
     insert_holds E (is_disabled rules) rules key value unheard
-begun_holds {K = K} {V = V} E rules (start.GetWith key replace) unheard =
+begun_holds {K = K} {V = V} E parts rules (start.GetWith key replace) unheard =
     load_holds V E (is_disabled rules) (seek kind.GetWith key replace)
-begun_holds {K = K} {V = V} E rules (start.Optional key) unheard =
+begun_holds {K = K} {V = V} E parts rules (start.Optional key) unheard =
     load_holds V E (is_disabled rules) (seek kind.Optional key None)
-begun_holds {K = K} {V = V} E rules (start.Try key) unheard =
+begun_holds {K = K} {V = V} E parts rules (start.Try key) unheard =
     load_holds V E (is_disabled rules) (seek kind.Try key None)
-begun_holds {K = K} {V = V} E rules (start.OrInsert key value) unheard =
+begun_holds {K = K} {V = V} E parts rules (start.OrInsert key value) unheard =
     or_insert_holds E (is_disabled rules) key value
-begun_holds {K = K} {V = V} E rules (start.Invalidate key) unheard =
+begun_holds {K = K} {V = V} E parts rules (start.Invalidate key) unheard =
     take_out_holds V E rules plan.To_invalidate key unheard
-begun_holds {K = K} {V = V} E rules (start.Remove key) unheard =
+begun_holds {K = K} {V = V} E parts rules (start.Remove key) unheard =
     take_out_holds V E rules plan.To_remove key unheard
-begun_holds {K = K} {V = V} E rules (start.Evict key stamp cause) unheard =
+begun_holds {K = K} {V = V} E parts rules (start.Evict key stamp cause) unheard =
     subst (λ b. HoldsNothing (under_lock {V = V} {E = E} b key
     (look (plan.To_evict key stamp cause) key))) (sym unheard) (tt, tt)
-begun_holds {K = K} {V = V} E rules start.InvalidateAll unheard = (tt, (tt, tt))
-begun_holds {K = K} {V = V} E rules _ unheard = (tt, tt)
+begun_holds {K = K} {V = V} E parts rules start.InvalidateAll unheard = (tt, (tt, tt))
+begun_holds {K = K} {V = V} E parts rules start.Iter unheard = iter_holds K V E (is_disabled rules) parts
+begun_holds {K = K} {V = V} E parts rules _ unheard = (tt, tt)
 
 module _ {K V E : Type 0} (s : State K V E) (calm : IsCalm s) where
   abbrev rules : Rules
@@ -135,11 +144,11 @@ module _ {K V E : Type 0} (s : State K V E) (calm : IsCalm s) where
     free = calm.free;
     owes = calm.owes;
     rest = others (started s begun).calls (s.world.desk.last + 1)
-        (Some (fresh_call rules begun)) refl
+        (Some (fresh_call s.world.table.division.parts rules begun)) refl
         (λ c e. subst (IsAtRest rules) (some_same e) (record {
           rules = refl;
           mode = λ f. cc;
-          plan = begun_holds E rules begun calm.unheard;
+          plan = begun_holds E s.world.table.division.parts rules begun calm.unheard;
         }));
   }
 

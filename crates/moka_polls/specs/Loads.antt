@@ -5,7 +5,7 @@ use Rattle.moka_hist.specs.Plan.{seek}
 use Rattle.moka_hist.specs.Plan as plan
 use Rattle.moka_hist.specs.Visits.{claimed, opened, read, settled_as, settlement_for, took_told}
 use Rattle.moka_hist.specs.Step.{takes_of}
-use Rattle.moka_hist.specs.Run.{Any, Happens, fresh_call}
+use Rattle.moka_hist.specs.Run.{Any, Happens}
 use Rattle.moka_hist.specs.declared.events.Event.TheVariants as event
 use Rattle.moka_hist.specs.declared.events.Start.{Start}
 use Rattle.moka_hist.specs.declared.events.Start.TheVariants as start
@@ -20,7 +20,7 @@ use Rattle.moka_hist.specs.declared.replies.Reply.{Reply}
 use Rattle.moka_hist.specs.declared.replies.Reply.TheVariants as reply
 use Rattle.moka_hist.specs.declared.visits.Settled.{Settled}
 use Rattle.moka_hist.specs.declared.visits.Settled.TheVariants as settled
-use Rattle.moka_polls.specs.Polls.{IsQuiet, IsBegun, HasToDo, parked, seen_in, stored_now, PollGives}
+use Rattle.moka_polls.specs.Polls.{begun_in, IsQuiet, IsBegun, HasToDo, parked, seen_in, stored_now, PollGives}
 
 -- what a call that is started so seeks to load, if it loads
 abbrev pub sought_by : {K V : Type 0} → Start K V → Option (Sought K)
@@ -71,7 +71,7 @@ LoadAsks K V E eq =
     s.world.desk.owners sought.load ≡ None →
     Happens eq Any s (event.Poll n) r new →
     PollGives s n (reply.Ask ask.Init)
-    (Some (parked (fresh_call s.world.desk.rules start) (plan.Told sought.load ∷ [])))
+    (Some (parked (begun_in s start) (plan.Told sought.load ∷ [])))
     s.world.table (asking eq s.world.desk n sought.load) r new
 
 -- a load that sees none, and that another call owns which hasn't ended, waits for that one
@@ -84,7 +84,7 @@ LoadWaits K V E eq =
     s.world.desk.owners sought.load ≡ Some owner → s.world.desk.settled owner ≡ None →
     Happens eq Any s (event.Poll n) r new →
     PollGives s n reply.Wait
-    (Some (parked (fresh_call s.world.desk.rules start) (plan.Read sought ∷ [])))
+    (Some (parked (begun_in s start) (plan.Read sought ∷ [])))
     s.world.table (waiting eq s.world.desk n sought.load owner) r new
 
 -- ---- the poll of a load that has asked

@@ -25,9 +25,13 @@ pub record IsQuiet {K V E : Type 0} (w : DeskPart K V E) : Type 0 where
   pub owes : w.owed ≡ []
 
 module _ {K V E : Type 0} where
+  -- the call as it is started so
+  abbrev pub begun_in : State K V E → Start K V → Call K V E
+  begun_in s start = fresh_call s.world.table.division.parts s.world.desk.rules start
+
   -- the call of this number was started so, and hasn't been polled yet
   abbrev pub IsBegun : State K V E → ℕ → Start K V → Type 0
-  IsBegun s n start = s.calls n ≡ Some (fresh_call s.world.desk.rules start)
+  IsBegun s n start = s.calls n ≡ Some (begun_in s start)
 
   -- the live call c of this number has this still to do
   pub record HasToDo (s : State K V E) (n : ℕ) (c : Call K V E) (todo : List (Item K V E))

@@ -20,6 +20,7 @@ use Rattle.moka_table.specs.Map.{Pairs}
 use Rattle.moka_text.specs.ReportText.{report_text}
 use Rattle.moka_text.specs.ScheduleText.{Says, IsFirstBad}
 use Rattle.moka_machine.specs.NumberTest.{number_test}
+use Rattle.moka_machine.specs.TheTable.{the_division}
 use Rattle.moka_machine.specs.Listed.{AreNotices, ArePlaces}
 use Rattle.moka_run.specs.Report.{Reports}
 use Rattle.moka_run.specs.declared.report.Report.{Report}
@@ -45,8 +46,8 @@ pub record RunsFresh (settings : Settings) (log : ℕ) (events : List (Event ℕ
   pub rules : Rules
   pub ruled : AreRulesOf settings rules
   pub final : State ℕ ℕ ℕ
-  pub run : Run nat_eq (IsLawful nat_eq) (fresh ℕ ℕ ℕ rules log number_test) events
-      report.replies final
+  pub run : Run nat_eq (IsLawful nat_eq) (fresh ℕ ℕ ℕ (the_division ℕ) rules log number_test)
+      events report.replies final
   pub reports : Reports nat_eq report.entries report.places report.notices final
   pub reached : IsReached nat_eq final
 
@@ -59,7 +60,8 @@ pub record ReportsRun (settings : Settings) (log : ℕ) (events : List (Event �
   pub ruled : AreRulesOf settings rules
   pub replies : List (Reply ℕ ℕ ℕ)
   pub final : State ℕ ℕ ℕ
-  pub run : Run nat_eq (IsLawful nat_eq) (fresh ℕ ℕ ℕ rules log number_test) events replies final
+  pub run : Run nat_eq (IsLawful nat_eq) (fresh ℕ ℕ ℕ (the_division ℕ) rules log number_test)
+      events replies final
   pub entries : List (ℕ × Stored ℕ)
   pub stored : ListsByKey entries final.world.table.stored
   pub places : List (ℕ × Place)

@@ -8,6 +8,7 @@ ghost use Rattle.moka_hist.specs.Settings.{refusal_of};
 ghost use Rattle.moka_hist.specs.Run.{IsReached};
 ghost use Rattle.moka_machine.specs.Machine.{IsValid, MachineIs};
 ghost use Rattle.moka_machine.specs.NumberTest.{number_test, number_tests};
+ghost use Rattle.moka_machine.specs.TheTable.{the_division};
 ghost use Rattle.moka_run.specs.Playing.{IsReport, ReportsRun, RunsFresh};
 ghost use Rattle.moka_run.specs.Running.{Answers};
 
@@ -59,7 +60,7 @@ fn build(
     requires least { 1 ≤ log }
     requires most { log ≤ 65536 }
     ensures fresh { IfOk result (λ machine. MachineIs nat_eq number_tests machine
-        (fresh ℕ ℕ ℕ rules log number_test)) }
+        (fresh ℕ ℕ ℕ (the_division ℕ) rules log number_test)) }
     ensures valid { IfOk result (λ machine. IsValid nat_eq number_tests machine) }
 {
     match Machine::build(alloc, rules, log, NumberTests) {

@@ -269,7 +269,7 @@ fn are_counted(rt: &(impl AllocGlobal + Abort), rows: &[(&str, u64)]) -> Result<
 }
 
 /// Schedules, with how many accesses the steps of each make, call by call.
-const SCHEDULES: [(&str, u64); 22] = [
+const SCHEDULES: [(&str, u64); 25] = [
     ("cache / start get 1 / poll 1", 2),
     (
         "cache log=8 / start insert 1 5 / poll 1 / start get 1 / poll 2",
@@ -362,7 +362,20 @@ const SCHEDULES: [(&str, u64); 22] = [
         6 + 1 + 5 + 3,
     ),
     ("cache cap=0 / start invalidate_all / poll 1", 1),
+    // Walks: a list, then a look for each key and a judgement of what it finds.
+    (
+        "cache log=8 / start insert 1 5 / poll 1 / start insert 2 6 / poll 2 / start iter / \
+         poll 3 / poll 3 / poll 3",
+        4 + 4 + 3 + 2 + 1,
+    ),
+    (
+        "cache log=8 ttl=10 / start insert 1 5 / poll 1 / start iter / step 2 / \
+         start remove 1 / poll 3 / step 2 / start insert 1 6 / poll 4 / at 10 / start iter / \
+         poll 5",
+        4 + 1 + 4 + 1 + 4 + 3,
+    ),
     // A disabled cache.
+    ("cache cap=0 / start iter / poll 1", 1),
     (
         "cache cap=0 / start insert 1 5 / poll 1 / start get_with 1 / poll 2 / \
          tell 2 value 7 / poll 2",

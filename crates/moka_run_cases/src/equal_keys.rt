@@ -1,4 +1,4 @@
-//! Keys that are equal and not the same: of which of them a compute speaks.
+//! Keys that are equal and not the same: of which of them a compute and a walk speak.
 ghost use Rattle.std.specs.Prelude.{nat_eq};
 ghost use Rattle.std.specs.Hash as fed;
 ghost use Rattle.std.specs.Ordering.{on};
@@ -90,6 +90,7 @@ fn of_reply(reply: &Reply<Name, u32, u16>) -> char {
     match reply {
         Reply::Ask(Ask::Compute(Some((key, _)))) => key.spelled,
         Reply::Answer(Answer::Computed(done)) => of_done(done),
+        Reply::Item(key, _) => key.spelled,
         _ => '.',
     }
 }
@@ -171,5 +172,48 @@ fn an_ask_has_the_stored_key_and_an_answer_the_calls(rt: HostRuntime) -> Result<
         spellings(rt.alloc(), &events)?.as_str(),
         "...a.b.a.c.c.d...e...f"
     );
+    Ok(())
+}
+
+/// Starts an insert under the name of this spelling, and polls it to its answer.
+fn inserted(call: u64, spelled: char) -> [Event<Name, u32, u16>; 2] {
+    let start = Start::Insert {
+        key: named(spelled),
+        value: 5,
+    };
+    [Event::Start { start }, Event::Poll { call }]
+}
+
+/// Starts a walk, and polls it to its first record.
+fn walked(call: u64) -> [Event<Name, u32, u16>; 2] {
+    [Event::Start { start: Start::Iter }, Event::Poll { call }]
+}
+
+/// Starts a walk, and makes its list.
+fn listed(call: u64) -> [Event<Name, u32, u16>; 2] {
+    [Event::Start { start: Start::Iter }, Event::Step { call }]
+}
+
+#[test]
+fn an_item_has_the_key_that_is_stored_at_its_look(rt: HostRuntime) -> Result<(), Fail> {
+    let pairs = [
+        inserted(1, 'a'),
+        walked(2),
+        inserted(3, 'b'),
+        walked(4),
+        listed(5),
+        inserted(6, 'c'),
+    ];
+    let mut events = Vec::new(rt.alloc());
+    for pair in pairs {
+        for event in pair {
+            events.push(event)?;
+        }
+    }
+    for call in [2, 4, 5] {
+        events.push(Event::Poll { call })?;
+    }
+    // Walk 5 lists the name as it was spelled before the last insert.
+    assert_eq!(rt; spellings(rt.alloc(), &events)?.as_str(), "...a...b......c");
     Ok(())
 }

@@ -55,6 +55,9 @@ fn the_first_bad_line_is_told(rt: HostRuntime) -> Result<(), Fail> {
         ("cache seed=1\n", 1),
         ("cache\nstart invalidate_all 1\n", 2),
         ("cache\nstart invalidate_all \n", 2),
+        ("cache\nstart iter 1\n", 2),
+        ("cache\nstart iter \n", 2),
+        ("cache\nstart iter_\n", 2),
     ];
     for (text, line) in rows {
         // Nothing is written, so the write that fails does no harm.

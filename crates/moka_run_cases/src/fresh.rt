@@ -1,12 +1,14 @@
-//! Schedules of rows, and the machines that are to run them.
+//! Schedules of rows, the machines that are to run them, and replies to single events.
 ghost use Rattle.std.specs.Prelude.{nat_eq, IfOk};
 ghost use Rattle.moka_machine.specs.Machine.{IsValid};
 ghost use Rattle.moka_machine.specs.NumberTest.{number_tests};
 
 use crate::in_memory::text_of;
-use moka_run::{Machine, NumberTests};
+use moka_hist::{Event, Reply};
+use moka_run::{Machine, NumberTests, run};
 use moka_text::{Schedule, read_schedule};
 use std::alloc::{AllocError, Global};
+use std::slice;
 
 /// Reads the schedule of a row, whose lines ` / ` parts.
 pub fn schedule_of(alloc: Global, row: &str) -> Result<Schedule, AllocError> {
@@ -26,4 +28,23 @@ pub fn machine_for(
     }
     let rules = schedule.settings.rules();
     Machine::build(alloc, rules, schedule.log, NumberTests).map_err(|_| AllocError)
+}
+
+/// The reply to one event. None where memory is wanting.
+pub fn reply_to(
+    alloc: Global,
+    machine: &mut Machine<u32, u32, u32, NumberTests>,
+    event: &Event<u32, u32, u32>,
+) -> Option<Reply<u32, u32, u32>>
+    requires { IsValid nat_eq number_tests machine.old }
+    ensures { IsValid nat_eq number_tests machine.new }
+{
+    let report = match run(alloc, machine, slice::from_ref(event)) {
+        Ok(report) => report,
+        Err(_) => return None,
+    };
+    match report.replies.as_slice() {
+        [reply] => reply.clone().ok(),
+        _ => None,
+    }
 }

@@ -26,6 +26,8 @@ mod loads;
 #[cfg(test)]
 mod memory;
 #[cfg(test)]
+mod orders;
+#[cfg(test)]
 mod pieces;
 #[cfg(test)]
 mod removals;
@@ -35,3 +37,7 @@ mod rows;
 mod stepping;
 #[cfg(test)]
 mod uses;
+#[cfg(test)]
+mod walk_model;
+#[cfg(test)]
+mod walks;

@@ -155,7 +155,7 @@ fn text_of_report(
 }
 
 /// Schedules with their reports, and a name for each.
-const ROWS: [(&str, &str, &str); 28] = [
+const ROWS: [(&str, &str, &str); 31] = [
     (
         "a_get",
         "cache log=8 / start get 1 / poll 1",
@@ -295,6 +295,21 @@ const ROWS: [(&str, &str, &str); 28] = [
         "an_invalidation_of_all",
         "cache log=8 tti=10 listener / start insert 1 5 / poll 1 / at 20 / start invalidate_all / poll 2 / start insert 1 6 / poll 3 / tell 3 done / poll 3 / start get 1 / poll 4",
         "call 1 / answer done / at / call 2 / answer done / call 3 / ask listener 1 5 Explicit / told / answer done / call 4 / answer some 6 / entry 1 6 stamp 3 at 20 / write 1 logged / write 3 logged / notice 3 1 5 Explicit ended",
+    ),
+    (
+        "a_walk",
+        "cache log=8 / start insert 1 5 / poll 1 / start iter / poll 2 / start insert 1 6 / poll 3 / poll 2 / start iter / step 4 / start remove 1 / poll 5 / poll 4",
+        "call 1 / answer done / call 2 / item 1 5 / call 3 / answer done / answer end / call 4 / going / call 5 / answer some 6 / answer end / write 1 logged / write 3 logged / write 5 logged",
+    ),
+    (
+        "a_walk_past_what_expired",
+        "cache log=8 ttl=10 / start insert 1 5 / poll 1 / at 5 / start insert 2 6 / poll 2 / at 12 / start iter / poll 3 / poll 3",
+        "call 1 / answer done / at / call 2 / answer done / at / call 3 / item 2 6 / answer end / entry 1 5 stamp 1 at 0 / entry 2 6 stamp 2 at 5 / write 1 logged / write 2 logged",
+    ),
+    (
+        "walks_under_a_listener",
+        "cache log=8 ttl=10 listener / start insert 1 5 / poll 1 / start iter / poll 2 / at 3 / start insert 1 6 / poll 3 / start iter / poll 4 / poll 2 / start remove 1 / poll 5 / drop 3 / tell 3 done / poll 5 / poll 4 / tell 5 off / poll 5 / start insert 1 7 / poll 6 / at 13 / start iter / poll 7",
+        "call 1 / answer done / call 2 / item 1 5 / at / call 3 / ask listener 1 5 Replaced / call 4 / item 1 6 / answer end / call 5 / wait / dropped / told / ask listener 1 6 Explicit / answer end / told / answer some 6 / call 6 / answer done / at / call 7 / answer end / entry 1 7 stamp 6 at 3 / write 1 logged / write 3 logged / write 5 logged / write 6 logged / notice 3 1 5 Replaced ended / notice 5 1 6 Explicit ended",
     ),
 ];
 

@@ -3,11 +3,10 @@ ghost use Rattle.std.specs.Prelude.{nat_eq};
 ghost use Rattle.moka_machine.specs.Machine.{IsValid};
 ghost use Rattle.moka_machine.specs.NumberTest.{number_tests};
 
-use crate::fresh::{machine_for, schedule_of};
+use crate::fresh::{machine_for, reply_to, schedule_of};
 use moka_hist::{Event, Notice, Place, Reply, Stored};
-use moka_run::{Machine, NumberTests, run};
+use moka_run::{Machine, NumberTests};
 use std::alloc::{AllocError, Global};
-use std::slice;
 use std::test::Fail;
 
 /// What a schedule came to: the replies, what is stored by key, where the writes stand, and how far
@@ -21,7 +20,7 @@ struct Outcome {
 }
 
 /// Schedules, ten of each kind. ` / ` parts lines.
-const SCHEDULES: [&str; 60] = [
+const SCHEDULES: [&str; 70] = [
     // Of gets, inserts and loads.
     "cache / start get 1 / poll 1",
     "cache log=8 / start insert 1 5 / poll 1 / start get 1 / poll 2",
@@ -88,26 +87,18 @@ const SCHEDULES: [&str; 60] = [
     "cache log=8 ttl=10 tti=5 listener / start insert 1 5 / poll 1 / at 5 / start compute 1 / poll 2 / tell 2 put 6 / poll 2 / at 9 / tell 2 done / poll 2 / start evict 1 2 Expired / poll 3 / at 10 / start evict 1 2 Expired / poll 4",
     "cache log=8 listener / start insert 1 5 / poll 1 / start insert 1 6 / poll 2 / at 1 / start invalidate_all / start get 1 / poll 4 / poll 3 / tell 2 done / poll 4 / start remove 1 / poll 5 / poll 2",
     "cache cap=0 ttl=10 / start invalidate_all / poll 1 / start get_with 1 / poll 2 / at 10 / tell 2 value 7 / poll 2",
+    // Of walks over the records.
+    "cache / start iter / poll 1 / poll 1",
+    "cache cap=0 log=8 / start insert 1 5 / poll 1 / start iter / poll 2",
+    "cache log=8 / start insert 1 5 / poll 1 / start iter / poll 2 / poll 2 / poll 2",
+    "cache log=8 / start insert 1 5 / poll 1 / start insert 2 6 / poll 2 / start iter / poll 3 / poll 3 / poll 3",
+    "cache log=8 / start insert 1 5 / poll 1 / start iter / poll 2 / drop 2 / start iter / start iter / poll 3 / poll 4 / start remove 1 / poll 5 / poll 3 / drop 4",
+    "cache log=8 / start insert 1 5 / poll 1 / start iter / step 2 / start insert 1 6 / poll 3 / poll 2 / start remove 1 / poll 4 / start insert 1 7 / poll 5 / poll 2",
+    "cache log=8 ttl=10 / start insert 1 5 / poll 1 / at 5 / start insert 2 6 / poll 2 / at 12 / start iter / poll 3 / poll 3 / start iter / step 4 / step 4 / at 15 / poll 4",
+    "cache log=8 tti=10 / start insert 1 5 / poll 1 / at 9 / start iter / poll 2 / poll 2 / at 10 / start get 1 / poll 3 / start iter / poll 4",
+    "cache log=8 ttl=10 listener / start insert 1 5 / poll 1 / start iter / poll 2 / at 3 / start insert 1 6 / poll 3 / start iter / poll 4 / poll 2 / start remove 1 / poll 5 / drop 3 / tell 3 done / poll 5 / poll 4 / tell 5 off / poll 5 / start insert 1 7 / poll 6 / at 13 / start iter / poll 7",
+    "cache cap=1 log=8 listener / start insert 1 5 / poll 1 / start insert 2 6 / poll 2 / start evict 1 1 Size / poll 3 / drop 3 / tell 3 done / start iter / poll 4 / at 1 / start invalidate_all / poll 5 / poll 4 / start iter / poll 6",
 ];
-
-/// The reply to one event. None where memory is wanting.
-fn reply_to(
-    alloc: Global,
-    machine: &mut Machine<u32, u32, u32, NumberTests>,
-    event: &Event<u32, u32, u32>,
-) -> Option<Reply<u32, u32, u32>>
-    requires { IsValid nat_eq number_tests machine.old }
-    ensures { IsValid nat_eq number_tests machine.new }
-{
-    let report = match run(alloc, machine, slice::from_ref(event)) {
-        Ok(report) => report,
-        Err(_) => return None,
-    };
-    match report.replies.as_slice() {
-        [reply] => reply.clone().ok(),
-        _ => None,
-    }
-}
 
 /// The reply that a poll gives, by single steps, of which there are at most a hundred.
 fn reply_by_steps(
@@ -192,7 +183,7 @@ fn first_other(
 }
 
 #[test]
-fn single_steps_come_to_what_polls_do_in_60_schedules(rt: HostRuntime) -> Result<(), Fail> {
+fn single_steps_come_to_what_polls_do_in_70_schedules(rt: HostRuntime) -> Result<(), Fail> {
     assert_eq!(rt; first_other(rt.alloc(), &SCHEDULES)?, None);
     Ok(())
 }

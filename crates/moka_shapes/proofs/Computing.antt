@@ -63,6 +63,9 @@ module _ {K V E : Type 0} (key : K) (Other : Type 0) (May : Answer K V E → Typ
   Suits (plan.Holds under stamp cause there stored) = ⊥
   Suits (plan.Moment (plan.To_take_out removal under)) = SuitsRemoval removal
   Suits (plan.Out removal under) = SuitsRemoval removal
+  Suits (plan.List_keys part) = ⊥
+  Suits (plan.Find under) = ⊥
+  Suits (plan.Scan there stored) = ⊥
   Suits (plan.Reply a) = May a
   Suits _ = Unit {0}
 
@@ -199,6 +202,9 @@ module _ {K V E : Type 0} (key : K) (Other : Type 0) (May : Answer K V E → Typ
       (λ k old off some. on (Suits key Other May) May _ (λ b g. cc) (tt, said_suits key Other May removal _ (q.0.0 old.value))),
       λ k old is_on some. on (Suits key Other May) May _ (λ b g. cc) (tt, (tt, (tt, said_suits key Other May removal _ (q.0.0 old.value)))),
     )
+    on_item (plan.List_keys part) rest e q = absurd q.0
+    on_item (plan.Find under) rest e q = absurd q.0
+    on_item (plan.Scan there stored) rest e q = absurd q.0
     on_item (plan.Reply a) rest e q = answers_so (Suits key Other May) May a _ refl refl q.0
     on_item _ rest e q = goes_suits (Suits key Other May) May (λ a may. may) c rest q.1
 
@@ -252,8 +258,8 @@ module _ {K V E : Type 0} (eq : K → K → Bool) (key : K) (Other : Type 0) (Ma
 
 -- ---- as a compute is started
 
-module _ {K V E : Type 0} (eq : K → K → Bool) (rules : Rules) (key : K) (path : List (Got K V E)) where
-  fresh_suits : (begin : Start K V) → computed_key begin ≡ Some key → AllSuit (Suits key (Contains path other_goes) (ComputeAnswers begin key path)) (plan_of rules begin)
+module _ {K V E : Type 0} (eq : K → K → Bool) (parts : ℕ) (rules : Rules) (key : K) (path : List (Got K V E)) where
+  fresh_suits : (begin : Start K V) → computed_key begin ≡ Some key → AllSuit (Suits key (Contains path other_goes) (ComputeAnswers begin key path)) (plan_of parts rules begin)
   fresh_suits (start.Compute under) is = (some_same is, tt)
   fresh_suits (start.TryCompute under) is = (some_same is, tt)
   fresh_suits (start.Upsert under) is = (some_same is, tt)
@@ -262,11 +268,11 @@ module _ {K V E : Type 0} (eq : K → K → Bool) (rules : Rules) (key : K) (pat
   fresh_suits _ is = absurd (none_some is)
 
 pub computes_tell : {K V E : Type 0} (eq : K → K → Bool) → ComputesTell K V E eq
-computes_tell {K} {V} {E} eq rules begin key n path d given a computes led gives answers =
+computes_tell {K} {V} {E} eq parts rules begin key n path d given a computes led gives answers =
     let whole : List (Got K V E) = path ++ given ∷ [] in
     let such : Told V E → Type 0 = λ t. Contains whole (taken t) in
     let follows : (t : Told V E) (said : Answer K V E) → such t → Follows key t said → ComputeAnswers begin key whole said = λ t said tells is. inl (t, tells, is) in
-    let suits = path_suits eq key (Contains whole other_goes) (ComputeAnswers begin key whole) such follows n path (fresh_call rules begin) d (fresh_suits eq rules key whole begin computes) led
+    let suits = path_suits eq key (Contains whole other_goes) (ComputeAnswers begin key whole) such follows n path (fresh_call parts rules begin) d (fresh_suits eq parts rules key whole begin computes) led
     (λ g there t is. subst (Contains whole) is (Contains-append_left path (given ∷ []) g there))
     (λ g there is. subst (Contains whole) is (Contains-append_left path (given ∷ []) g there)) in
     (step_suits eq key (Contains whole other_goes) (ComputeAnswers begin key whole) such follows n d given suits gives

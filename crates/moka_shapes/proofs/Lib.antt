@@ -1,3 +1,4 @@
 mod Leaving
 pub mod Computing
 pub mod Loading
+pub mod Walking

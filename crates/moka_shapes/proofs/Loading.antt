@@ -97,6 +97,9 @@ module _ {K V E : Type 0} (kind : Kind) (Judged : Type 0) (May : Answer K V E �
   Suits (plan.Holds key stamp cause there stored) = ⊥
   Suits (plan.Moment (plan.To_take_out removal key)) = ⊥
   Suits (plan.Out removal key) = ⊥
+  Suits (plan.List_keys part) = ⊥
+  Suits (plan.Find under) = ⊥
+  Suits (plan.Scan there stored) = ⊥
   Suits (plan.Reply a) = May a
   Suits _ = Unit {0}
 
@@ -210,6 +213,9 @@ module _ {K V E : Type 0} (kind : Kind) (Judged : Type 0) (May : Answer K V E �
       λ k old is_on some. on (Suits kind Judged May) May _ (λ b g. cc) (tt, (tt, (tt, q.1))),
     )
     on_item (plan.Out removal key) rest e q = absurd q.0
+    on_item (plan.List_keys part) rest e q = absurd q.0
+    on_item (plan.Find under) rest e q = absurd q.0
+    on_item (plan.Scan there stored) rest e q = absurd q.0
     on_item (plan.Reply a) rest e q = answers_so (Suits kind Judged May) May a _ refl refl q.0
     on_item _ rest e q = goes_suits (Suits kind Judged May) May (λ a may. may) c rest q.1
 
@@ -282,11 +288,11 @@ module _ {K V E : Type 0} (Judged : Type 0) (May : Answer K V E → Type 0) wher
   load_suits true sought kind is = (tt, (is, tt))
   load_suits false sought kind is = (tt, (is, tt))
 
-  fresh_suits : (rules : Rules) (begin : Start K V) (k : Kind) → kind_loaded begin ≡ Some k → AllSuit (Suits k Judged May) (plan_of rules begin)
-  fresh_suits rules (start.GetWith key replace) k is = load_suits (is_disabled rules) (seek kind.GetWith key replace) k (some_same is)
-  fresh_suits rules (start.Optional key) k is = load_suits (is_disabled rules) (seek kind.Optional key None) k (some_same is)
-  fresh_suits rules (start.Try key) k is = load_suits (is_disabled rules) (seek kind.Try key None) k (some_same is)
-  fresh_suits _ _ k is = absurd (none_some is)
+  fresh_suits : (parts : ℕ) (rules : Rules) (begin : Start K V) (k : Kind) → kind_loaded begin ≡ Some k → AllSuit (Suits k Judged May) (plan_of parts rules begin)
+  fresh_suits parts rules (start.GetWith key replace) k is = load_suits (is_disabled rules) (seek kind.GetWith key replace) k (some_same is)
+  fresh_suits parts rules (start.Optional key) k is = load_suits (is_disabled rules) (seek kind.Optional key None) k (some_same is)
+  fresh_suits parts rules (start.Try key) k is = load_suits (is_disabled rules) (seek kind.Try key None) k (some_same is)
+  fresh_suits parts _ _ k is = absurd (none_some is)
 
 -- an access of the way says what the load may answer
 says_of : {K V E : Type 0} (kind : Kind) (path : List (Got K V E)) (given : Got K V E) → Contains path given → Says kind given (Contains path judged) (LoadAnswers kind path)
@@ -299,10 +305,10 @@ says_of kind path given there = record {
 }
 
 pub loads_tell : {K V E : Type 0} (eq : K → K → Bool) → LoadsTell K V E eq
-loads_tell {K} {V} {E} eq rules begin kind n path d given said loads led gives answers =
+loads_tell {K} {V} {E} eq parts rules begin kind n path d given said loads led gives answers =
     let whole : List (Got K V E) = path ++ given ∷ [] in
     let May : Answer K V E → Type 0 = LoadAnswers kind whole in
     let Judged : Type 0 = Contains whole judged in
-    let suits = path_suits eq kind Judged May n path (fresh_call rules begin) d
-    (λ other there. says_of kind whole other (Contains-append_left path (given ∷ []) other there)) (fresh_suits Judged May rules begin kind loads) led in
+    let suits = path_suits eq kind Judged May n path (fresh_call parts rules begin) d
+    (λ other there. says_of kind whole other (Contains-append_left path (given ∷ []) other there)) (fresh_suits Judged May parts rules begin kind loads) led in
     (step_suits eq kind Judged May n d given (says_of kind whole given (Contains-append_right path (given ∷ []) given (Contains-push [] given))) suits gives).now said answers

@@ -1,5 +1,5 @@
 -- What a compute answers, whatever worlds it meets, by what it was told.
-use Rattle.std.specs.Prelude.{◌≡◌, ◌⊎◌, ℕ, Bool, true, false, List, [], ◌∷◌, ◌++◌, Option, Some, None, Contains}
+use Rattle.std.specs.Prelude.{◌≡◌, ◌⊎◌, ℕ, Bool, true, List, [], ◌∷◌, ◌++◌, Option, Some, None, Contains}
 use Rattle.moka_hist.specs.State.{Call}
 use Rattle.moka_hist.specs.Entries.{put_answer, removed_value, unchanged}
 use Rattle.moka_hist.specs.Step.{next_of}
@@ -9,7 +9,6 @@ use Rattle.moka_hist.specs.declared.accesses.Got.TheVariants as got
 use Rattle.moka_hist.specs.declared.accesses.Turn.TheVariants as turn
 use Rattle.moka_hist.specs.declared.events.Op.TheVariants as op
 use Rattle.moka_hist.specs.declared.events.Start.{Start}
-use Rattle.moka_hist.specs.declared.events.Start.TheVariants as start
 use Rattle.moka_hist.specs.declared.events.Told.{Told}
 use Rattle.moka_hist.specs.declared.events.Told.TheVariants as told
 use Rattle.moka_hist.specs.declared.replies.Answer.{Answer}
@@ -54,7 +53,7 @@ module _ {K V E : Type 0} where
 -- so does each compute, from its fresh call on
 abbrev pub ComputesTell : (K V E : Type 0) → (K → K → Bool) → Type 0
 ComputesTell K V E eq =
-    (rules : Rules) (begin : Start K V) (key : K) (n : ℕ) (path : List (Got K V E))
+    (parts : ℕ) (rules : Rules) (begin : Start K V) (key : K) (n : ℕ) (path : List (Got K V E))
     (d : Call K V E) (given : Got K V E) (said : Answer K V E) → computed_key begin ≡ Some key →
-    MayLead eq n (fresh_call rules begin) path d → MayBeGiven eq n d given →
+    MayLead eq n (fresh_call parts rules begin) path d → MayBeGiven eq n d given →
     (next_of n d given).turn ≡ turn.Answer said → ComputeAnswers begin key (path ++ given ∷ []) said

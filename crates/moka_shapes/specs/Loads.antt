@@ -1,5 +1,5 @@
 -- What a load answers, whatever worlds it meets, by what it was told and what it read.
-use Rattle.std.specs.Prelude.{◌≡◌, ◌⊎◌, ℕ, Bool, true, false, List, [], ◌∷◌, ◌++◌, Option, Some, None, Contains}
+use Rattle.std.specs.Prelude.{◌≡◌, ◌⊎◌, ℕ, Bool, true, false, List, [], ◌∷◌, ◌++◌, Some, Contains}
 use Rattle.moka_hist.specs.State.{Call}
 use Rattle.moka_hist.specs.Conditions.{may_end}
 use Rattle.moka_hist.specs.Step.{next_of}
@@ -9,11 +9,9 @@ use Rattle.moka_hist.specs.declared.accesses.Got.{Got}
 use Rattle.moka_hist.specs.declared.accesses.Got.TheVariants as got
 use Rattle.moka_hist.specs.declared.accesses.Turn.TheVariants as turn
 use Rattle.moka_hist.specs.declared.events.Start.{Start}
-use Rattle.moka_hist.specs.declared.events.Start.TheVariants as start
 use Rattle.moka_hist.specs.declared.events.Told.{Told}
 use Rattle.moka_hist.specs.declared.events.Told.TheVariants as told
 use Rattle.moka_hist.specs.declared.loads.Kind.{Kind}
-use Rattle.moka_hist.specs.declared.loads.Kind.TheVariants as kind
 use Rattle.moka_hist.specs.declared.records.Stored.{Stored}
 use Rattle.moka_hist.specs.declared.replies.Answer.{Answer}
 use Rattle.moka_hist.specs.declared.replies.Answer.TheVariants as answer
@@ -84,7 +82,8 @@ MayLeadLoad {K} {V} {E} eq n c (given ∷ more) d =
 -- each load answers so, from its fresh call on
 abbrev pub LoadsTell : (K V E : Type 0) → (K → K → Bool) → Type 0
 LoadsTell K V E eq =
-    (rules : Rules) (begin : Start K V) (kind : Kind) (n : ℕ) (path : List (Got K V E))
+    (parts : ℕ) (rules : Rules) (begin : Start K V) (kind : Kind) (n : ℕ)
+    (path : List (Got K V E))
     (d : Call K V E) (given : Got K V E) (said : Answer K V E) → kind_loaded begin ≡ Some kind →
-    MayLeadLoad eq n (fresh_call rules begin) path d → MayGiveLoad eq n d given →
+    MayLeadLoad eq n (fresh_call parts rules begin) path d → MayGiveLoad eq n d given →
     (next_of n d given).turn ≡ turn.Answer said → LoadAnswers kind (path ++ given ∷ []) said

@@ -5,6 +5,8 @@
 
 mod computes;
 mod loads;
+mod walks;
 
 pub use computes::computes_tell;
 pub use loads::loads_tell;
+pub use walks::others_give_none;

@@ -1,7 +1,7 @@
 -- What starting, telling and dropping a call do.
 use Rattle.std.proofs.Common.{◌≡◌, ◌<◌, ◌≤◌, ◌+◌, ℕ, ◌==◌, nat_lt, Bool, true, false, cond, ◌&&◌, Option, Some, None, is_some, MatchBool, refl, sym, ap, ◌∙◌, subst, arith}
 use Rattle.std.specs.Option.{option_map, option_and_then, option_map_or}
-use Rattle.std.proofs.lemmas.Bool.{eqb-true}
+use Rattle.std.proofs.lemmas.Bool.{eqb-true, false≢true}
 use Rattle.moka_hist.specs.Dropping.{dropped, left, owed_by}
 use Rattle.moka_hist.specs.Finite.{put_at}
 use Rattle.moka_hist.specs.State.{Call, State}
@@ -10,6 +10,7 @@ use Rattle.moka_hist.specs.Telling.{does_take, is_asked, told_call}
 use Rattle.moka_hist.specs.Run.{Any, Becomes, Drops, Happens, Refuses, fresh_call, last_call, started as started_at, with_desk}
 use Rattle.moka_hist.specs.declared.events.Event.TheVariants as event
 use Rattle.moka_hist.specs.declared.events.Start.{Start}
+use Rattle.moka_hist.specs.declared.events.Start.TheVariants as start
 use Rattle.moka_hist.specs.declared.replies.Refusal.{Refusal}
 use Rattle.moka_hist.specs.declared.replies.Refusal.TheVariants as refusal
 use Rattle.moka_hist.specs.declared.replies.Reply.{Reply}
@@ -34,9 +35,9 @@ use Rattle.moka_small.proofs.Viewing.{after, is_put, part_at, still_none}
 -- ---- a fresh cache
 
 pub fresh_empty : {K V E : Type 0} (eq : K → K → Bool) → FreshIsEmpty K V E eq
-fresh_empty {K} {V} {E} eq capacity size tests has_log stores = record {
-  reached = fresh_reached eq (rules_of capacity) size tests has_log;
-  calm = fresh_calm (rules_of capacity) size tests refl;
+fresh_empty {K} {V} {E} eq division capacity size tests divides has_log stores = record {
+  reached = fresh_reached eq division divides (rules_of capacity) size tests has_log;
+  calm = fresh_calm division (rules_of capacity) size tests refl;
   views = record {
     rules = refl;
     stores = stores;
@@ -62,6 +63,12 @@ fresh_empty {K} {V} {E} eq capacity size tests has_log stores = record {
 begun_same : {K V E : Type 0} (begin start : Start K V) (x : Option (Stand K V E)) → x ≡ Some (Begun begin) →
     x ≡ Some (Begun start) → begin ≡ start
 begun_same begin start x a b = cc
+
+-- what a plain call has to do doesn't depend on how many parts the table has
+pub plain_call : {K V E : Type 0} (parts : ℕ) (rules : Rules) (begin : Start K V) → is_plain_start begin ≡ true →
+    fresh_call {K = K} {V = V} {E = E} parts rules begin ≡ fresh_call 1 rules begin
+plain_call parts rules start.Iter plain = absurd (false≢true plain)
+plain_call parts rules _ plain = refl
 
 module _ {K V E : Type 0} (m : Small K V E) (orderly : IsOrderly m) (begin : Start K V) (plain : is_plain_start begin ≡ true) where
   start_orderly : IsOrderly (started m begin)
@@ -102,10 +109,10 @@ module _ {K V E : Type 0} (m : Small K V E) (orderly : IsOrderly m) (begin : Sta
     last = ap (λ i. i + 1) views.last;
     stored = views.stored;
     calls = λ k.
-        ap (λ i. put_at s.calls (i + 1) (Some (fresh_call s.world.desk.rules begin)) k) views.last ∙
+        ap (λ i. put_at s.calls (i + 1) (Some (fresh_call s.world.table.division.parts s.world.desk.rules begin)) k) views.last ∙
         both_put s.calls m.stands (option_map (call_at (rules_of m.capacity))) views.calls (m.last + 1)
-        (Some (fresh_call s.world.desk.rules begin)) (Some (Begun begin))
-        (ap (λ rules. Some (fresh_call rules begin)) views.rules) k;
+        (Some (fresh_call s.world.table.division.parts s.world.desk.rules begin)) (Some (Begun begin))
+        (ap Some (plain_call s.world.table.division.parts s.world.desk.rules begin plain) ∙ ap (λ rules. Some (fresh_call 1 rules begin)) views.rules) k;
     owning = part_free s.world.desk.owning load_at views.owning refl;
     joined = part_free s.world.desk.joined owner_at views.joined refl;
     asks = part_free s.world.desk.asks takes_at views.asks refl;

@@ -55,6 +55,7 @@ use Rattle.moka_small.specs.Seen.{IsOrderly, Views, rules_of, reply_to, call_at,
 use Rattle.moka_small.proofs.Places.{both_put_key}
 use Rattle.moka_small.proofs.Owners.{owner_found, owner_open}
 use Rattle.moka_small.proofs.Counted.{readers_are, kept_without}
+use Rattle.moka_small.proofs.Happening.{plain_call}
 use Rattle.moka_small.proofs.Orderly.{EndsBy, as_before, fewer, one_more, stays_orderly, none_begins}
 use Rattle.moka_small.proofs.Viewing.{DeskIs, after, after_waiting, still_none, is_put, part_at}
 
@@ -114,7 +115,8 @@ module _ {K V E : Type 0} (eq : K → K → Bool) (s new : State K V E) (m : Sma
 
   module _ (begin : Start K V) (live : m.stands n ≡ Some (Begun begin)) where
     begun : IsBegun s n begin
-    begun = call_is (Begun begin) live ∙ ap (λ rules. Some (fresh_call rules begin)) (sym views.rules)
+    begun = call_is (Begun begin) live ∙ ap (λ rules. Some (fresh_call 1 rules begin)) (sym views.rules) ∙
+        sym (ap Some (plain_call s.world.table.division.parts s.world.desk.rules begin (views.orderly.begun n begin live)))
 
     -- the call is gone, and the table is this
     gone_with : (stored : K → Option (V × ℕ)) (table : TablePart K V) (reply : Reply K V E) →
@@ -159,7 +161,7 @@ module _ {K V E : Type 0} (eq : K → K → Bool) (s new : State K V E) (m : Sma
 
     -- it asks
     asks_so : (load : Load K) →
-        PollGives s n (reply.Ask ask.Init) (Some (parked (fresh_call s.world.desk.rules begin) (plan.Told load ∷ [])))
+        PollGives s n (reply.Ask ask.Init) (Some (parked (fresh_call s.world.table.division.parts s.world.desk.rules begin) (plan.Told load ∷ [])))
         s.world.table (asking eq s.world.desk n load) r new → Row (claims m n load None)
     asks_so load gives = (
       gives.replies,
@@ -174,7 +176,7 @@ module _ {K V E : Type 0} (eq : K → K → Bool) (s new : State K V E) (m : Sma
             told = is_put m n (Begun begin) live s.world.desk.told told_at views.told None (Some (Asks load)) refl;
             settled = views.settled;
           })
-          (ap (λ rules. Some (parked (fresh_call rules begin) (plan.Told load ∷ []))) views.rules) views.stored
+          (ap (λ rules. Some (parked (fresh_call s.world.table.division.parts rules begin) (plan.Told load ∷ []))) views.rules) views.stored
           (stays_orderly m views.orderly n (Begun begin) live m.stored (Some (Asks load)) (λ start e. cc) m.ends (as_before m views.orderly n (Some (Asks load))))
           gives,
     )
@@ -182,7 +184,7 @@ module _ {K V E : Type 0} (eq : K → K → Bool) (s new : State K V E) (m : Sma
     -- it waits
     waits_so : (load : Load K) (owner : ℕ) →
         PollGives s n reply.Wait
-        (Some (parked (fresh_call s.world.desk.rules begin) (plan.Read (record { load = load; replace = None }) ∷ [])))
+        (Some (parked (fresh_call s.world.table.division.parts s.world.desk.rules begin) (plan.Read (record { load = load; replace = None }) ∷ [])))
         s.world.table (joining eq s.world.desk n load owner) r new → Row (claims m n load (Some owner))
     waits_so load owner gives = (
       gives.replies,
@@ -197,7 +199,7 @@ module _ {K V E : Type 0} (eq : K → K → Bool) (s new : State K V E) (m : Sma
             told = still_none m n (Begun begin) live s.world.desk.told told_at views.told (Some (Waits owner load)) refl refl;
             settled = views.settled;
           })
-          (ap (λ rules. Some (parked (fresh_call rules begin) (plan.Read (record { load = load; replace = None }) ∷ []))) views.rules) views.stored
+          (ap (λ rules. Some (parked (fresh_call s.world.table.division.parts rules begin) (plan.Read (record { load = load; replace = None }) ∷ []))) views.rules) views.stored
           (stays_orderly m views.orderly n (Begun begin) live m.stored (Some (Waits owner load)) (λ start e. cc) m.ends (as_before m views.orderly n (Some (Waits owner load))))
           gives,
     )
@@ -309,6 +311,7 @@ module _ {K V E : Type 0} (eq : K → K → Bool) (s new : State K V E) (m : Sma
       (gives.replies ∙ ap (λ v. reply.Answer (answer.Found v)) (value_is key), taken_so _ live key _ gives)
   begins_so (start.Evict key stamp cause) live = evicts_so key stamp cause live
   begins_so start.InvalidateAll live = absurd (false≢true (views.orderly.begun n _ live))
+  begins_so start.Iter live = absurd (false≢true (views.orderly.begun n _ live))
 
   -- ---- later polls
 

@@ -105,7 +105,7 @@ module _ {K V E : Type 0} where
   has_to_leave m key stamp cause =
       option_map_or (λ kept. kept.1 == stamp && cause_holds m.capacity cause) (m.stored key) false
 
-  -- the first poll of a call that was started so; none is a compute or an invalidation of all
+  -- the first poll of a call that was started so; none is a compute, an invalidation of all or a walk
   abbrev pub begins : (K → K → Bool) → Small K V E → ℕ → Start K V → Outcome V E × Small K V E
   begins eq m n (start.Get key) = (outcome.Found (value_under m key), gone m n)
   begins eq m n (start.Insert key value) = (outcome.Done, gone_storing eq m n key value)
@@ -126,6 +126,7 @@ module _ {K V E : Type 0} where
       (outcome.Evicted, record (gone m n) { stored = put_key eq m.stored key None })
       (outcome.Kept, gone m n)
   begins eq m n start.InvalidateAll = (outcome.Waits, m)
+  begins eq m n start.Iter = (outcome.Waits, m)
 
   -- a load that waits answers as its owner ended, if that has, and waits on if not
   abbrev pub reads : Small K V E → ℕ → Option (End V E) → Outcome V E × Small K V E

@@ -69,9 +69,9 @@ module _ {K V E : Type 0} where
   still rules item =
       record { rules = rules; mode = mode.Parked; plan = item ∷ []; aborts = 0 }
 
-  -- the call that stands there
+  -- the call that stands there; what a plain one has to do is the same on a table of one part
   abbrev pub call_at : Rules → Stand K V E → Call K V E
-  call_at rules (Begun start) = fresh_call rules start
+  call_at rules (Begun start) = fresh_call 1 rules start
   call_at rules (Asks load) = still rules (plan.Told load)
   call_at rules (Was_told load end) = still rules (plan.Told load)
   call_at rules (Waits owner load) =

@@ -45,7 +45,8 @@ empty capacity =
       capacity = capacity;
     }
 
--- the call can be started here: it has no replace test, and is no compute and no invalidation of all
+-- the call can be started here: it has no replace test, and is no compute, no invalidation of all and
+-- no walk
 abbrev pub is_plain_start : {K V : Type 0} → Start K V → Bool
 is_plain_start (start.Get key) = true
 is_plain_start (start.Insert key value) = true
@@ -61,6 +62,7 @@ is_plain_start (start.Invalidate key) = true
 is_plain_start (start.Remove key) = true
 is_plain_start (start.Evict key stamp cause) = true
 is_plain_start start.InvalidateAll = false
+is_plain_start start.Iter = false
 
 module _ {K V E : Type 0} where
   -- the load that a call owns: it asks what that gives, or was told

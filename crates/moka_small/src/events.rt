@@ -9,7 +9,7 @@ pub fn fresh_is_empty<K: Eq, V, E>()
 {}
 
 /// A call that is started gets the next number, and stands at its beginning. Nothing else changes.
-/// It is no compute and no invalidation of all, and has no replace test.
+/// It is no compute, no invalidation of all and no walk, and has no replace test.
 pub fn start_is_started<K: Eq, V, E>()
     ensures started { StartIsStarted K V E K.eq }
 {}

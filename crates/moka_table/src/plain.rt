@@ -1,18 +1,20 @@
 //! The plain table: one hash map, whose operations decide at their first step.
-ghost use Rattle.std.specs.Prelude.{◌≡◌, ◌≢◌, ℕ, ◌<◌, ◌≤◌, ◌-◌, max, OnErr, OnOk, IfOk, IsOk};
+ghost use Rattle.std.specs.Prelude.{◌≡◌, ◌≢◌, ℕ, ◌<◌, ◌≤◌, ◌-◌, true, max, List, OnErr, OnOk, IfOk, IsOk};
 ghost use Rattle.std.specs.Prelude.{Option, Some, None, IsSome, is_some};
-ghost use Rattle.std.proofs.Common.{arith};
+ghost use Rattle.std.proofs.Common.{arith, refl};
 ghost use Rattle.std.specs.HashMap.{hash_map_len, spare};
 ghost use Rattle.moka_hist.specs.Finite.{put_key};
 ghost use Rattle.moka_hist.specs.Tables.{answer_of, taken_by};
+ghost use Rattle.moka_hist.specs.declared.tables.TableAnswer.TheVariants as found;
 ghost use Rattle.moka_hist.specs.declared.tables.TableOp.{TableOp};
 ghost use Rattle.moka_table.specs.declared.plain.PlainCall.{PlainCall};
 ghost use Rattle.moka_table.specs.Empty.{IsEmptyTable};
-ghost use Rattle.moka_table.specs.Map.{SameMap, Moves, keys_after, most_steps};
+ghost use Rattle.moka_table.specs.Map.{GoesOnListing, SameMap, Moves, keys_after, most_steps};
+ghost use Rattle.moka_table.specs.Plain.{AllCovered, IsOfPart, IsPlainList, NoneListed, plain_part, plain_parts};
 ghost use Rattle.moka_table.specs.Plain.{map_of, peak_of, plain_first, plain_left, plain_table};
 
 use crate::{EntryList, Table};
-use moka_hist::{Stored, TableAnswer, TableOp, TableTurn};
+use moka_hist::{KeyList, Stored, TableAnswer, TableOp, TableTurn};
 use moka_room::map_room;
 use moka_values::Exact;
 use std::alloc::{AllocError, Global};
@@ -23,6 +25,7 @@ use std::hash::Hash;
 /// A table over one hash map. Each operation decides at its one step.
 #[derive(Drop)]
 pub struct PlainTable<K: Eq + Hash, V> {
+    alloc: Global,
     pairs: HashMap<K, (K, Stored<V>)>,
     // The most pairs that there were at once before the latest removal.
     most: usize,
@@ -40,6 +43,7 @@ impl<K: Eq + Hash + Exact, V: Exact> PlainTable<K, V> {
         ensures empty { IsEmptyTable (plain_table K.eq) result }
     {
         PlainTable {
+            alloc,
             pairs: HashMap::new(alloc),
             most: 0,
         }
@@ -224,6 +228,47 @@ impl<K: Eq + Hash + Exact, V: Exact> PlainTable<K, V> {
         }
     }
 
+    // The one step of a list. Without memory the call is as before.
+    fn step_keys(
+        &self,
+        call: &mut PlainCall<K, V>,
+        part: usize,
+    ) -> Result<TableTurn<K, V>, AllocError>
+        ensures gives { IfOk result (λ turn. (keys : List K)
+            × (turn ≡ TableTurn.Decided (found.Keys keys)) × IsPlainList K.eq self.now part keys) }
+        ensures err { OnErr result (call.new.operation ≡ Some (TableOp.Keys part)) }
+    {
+        match self.keys_of(part) {
+            Ok(keys) => Ok(TableTurn::Decided(TableAnswer::Keys(KeyList::from_vec(keys)))),
+            Err(e) => {
+                call.operation = Some(TableOp::Keys { part });
+                Err(e)
+            }
+        }
+    }
+
+    // Copies of the keys of the part: of each, or of none, since there is one part.
+    fn keys_of(&self, part: usize) -> Result<Vec<K>, AllocError>
+        ensures { IfOk result (λ keys. IsPlainList K.eq self.now part keys.items) }
+    {
+        if part == 0 {
+            self.keys()
+        } else {
+            Ok(Vec::new(self.alloc))
+        }
+    }
+
+    // Copies of the keys.
+    fn keys(&self) -> Result<Vec<K>, AllocError>
+        ensures { IfOk result (λ keys. IsPlainList K.eq self.now 0 keys.items) }
+    {
+        let mut keys = Vec::with_capacity(self.alloc, self.pairs.len())?;
+        for key in self.pairs.keys() {
+            keys.push(key.clone()?)?;
+        }
+        Ok(keys)
+    }
+
     // The one step of a removal. It takes no memory.
     fn step_out(&mut self, key: &K, stamp: Option<u64>) -> TableTurn<K, V>
         ensures moves { Moves K.eq (TableOp.RemoveIf key.now stamp)
@@ -257,13 +302,26 @@ impl<K: Eq + Hash + Exact, V: Exact> Table<K, V> for PlainTable<K, V> {
 
     ghost left = { λ t c. plain_left };
 
+    ghost divided = { λ t. plain_parts };
+
+    ghost part_of = { λ t. plain_part };
+
+    ghost listed = { λ t c. NoneListed };
+
+    ghost covers = { λ t c. AllCovered };
+
     ghost peak_holds = { λ t. Prim.omega arith };
 
     ghost first_holds = { λ t. Prim.omega arith };
 
-    fn segments(&self) -> usize
-        ensures some { 0 < result }
-        ensures one { result ≡ 1 }
+    ghost parts_hold = { λ t. (Prim.omega arith, Prim.omega arith) };
+
+    ghost part_holds = { λ t key. Prim.omega arith };
+
+    ghost alike = { λ t a b same. refl };
+
+    fn parts(&self) -> usize
+        ensures { result ≡ plain_parts }
     {
         1
     }
@@ -272,6 +330,9 @@ impl<K: Eq + Hash + Exact, V: Exact> Table<K, V> for PlainTable<K, V> {
         ensures operation { result.operation ≡ Some operation }
         ensures fits { result.operation ≢ None }
         ensures left { plain_left ≤ most_steps plain_first (peak_of self.now) }
+        ensures none { (part : ℕ) → operation ≡ TableOp.Keys part → (q : K) → NoneListed q → ⊥ }
+        ensures all { (part : ℕ) → operation ≡ TableOp.Keys part
+            → (q : K) → IsOfPart part q → AllCovered q }
     {
         PlainCall {
             operation: Some(operation),
@@ -286,6 +347,15 @@ impl<K: Eq + Hash + Exact, V: Exact> Table<K, V> for PlainTable<K, V> {
             (map_of K.eq self.new) (hash_map_len self.new.pairs)) }
         ensures peak { peak_of self.new ≡ max (peak_of self.old) (hash_map_len self.new.pairs) }
         ensures first { plain_first ≡ plain_first }
+        ensures parts { (plain_parts ≡ plain_parts) × ((q : K) → plain_part q ≡ plain_part q) }
+        // Of a call that lists the keys of a part: how it goes on, and which it gives at last.
+        ensures lists { IfOk result (λ turn. (part : ℕ)
+            → call.old.operation ≡ Some (TableOp.Keys part) → turn ≡ TableTurn.Going
+            → GoesOnListing (map_of K.eq self.old) (IsOfPart part) NoneListed NoneListed
+            AllCovered AllCovered) }
+        ensures gives { IfOk result (λ turn. (part : ℕ) → (keys : List K)
+            → call.old.operation ≡ Some (TableOp.Keys part)
+            → turn ≡ TableTurn.Decided (found.Keys keys) → IsPlainList K.eq self.old part keys) }
         // A removal takes no memory.
         ensures removal { (key : K) (stamp : Option ℕ)
             → call.old.operation ≡ Some (TableOp.RemoveIf key stamp) → IsOk result }
@@ -301,10 +371,19 @@ impl<K: Eq + Hash + Exact, V: Exact> Table<K, V> for PlainTable<K, V> {
             → other.operation ≢ None }
         ensures others_left { (other : PlainCall K V) → other.operation ≢ None
             → plain_left ≤ most_steps plain_first (peak_of self.new) }
+        // They have listed no key more, and cover what they covered of the keys that stay.
+        ensures others_listed { (other : PlainCall K V) → other.operation ≢ None
+            → (q : K) → NoneListed q → NoneListed q }
+        ensures others_cover { (other : PlainCall K V) (part : ℕ) → other.operation ≢ None
+            → other.operation ≡ Some (TableOp.Keys part) → (q : K) → IsOfPart part q
+            → IsSome (map_of K.eq self.old q) → IsSome (map_of K.eq self.new q)
+            → AllCovered q → AllCovered q }
         // Without memory nothing has changed, for this call and for the others.
         ensures err_map { OnErr result (SameMap (map_of K.eq self.old) (map_of K.eq self.new)) }
         ensures err_count { OnErr result
             (hash_map_len self.new.pairs ≡ hash_map_len self.old.pairs) }
+        ensures err_listed { OnErr result ((q : K) → (NoneListed q → NoneListed q)
+            × (AllCovered q → AllCovered q)) }
         ensures err_call { OnErr result ((call.new.operation ≡ call.old.operation)
             × (call.new.operation ≢ None) × (plain_left ≡ plain_left)) }
         ensures err_others { OnErr result ((other : PlainCall K V) → other.operation ≢ None
@@ -315,6 +394,7 @@ impl<K: Eq + Hash + Exact, V: Exact> Table<K, V> for PlainTable<K, V> {
             Some(TableOp::InsertOrModify { key, stored }) => self.step_put(call, key, stored),
             Some(TableOp::InsertIfAbsent { key, stored }) => self.step_absent(call, key, stored),
             Some(TableOp::RemoveIf { key, stamp }) => Ok(self.step_out(&key, stamp)),
+            Some(TableOp::Keys { part }) => self.step_keys(call, part),
             None => unreachable!(),
         }
     }

@@ -124,6 +124,7 @@ fn is_some(answer: &TableAnswer<u64, u64>) -> bool {
     match answer {
         TableAnswer::None => false,
         TableAnswer::Some { .. } => true,
+        TableAnswer::Keys(_) => false,
     }
 }
 

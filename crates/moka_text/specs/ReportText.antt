@@ -41,6 +41,7 @@ answer_words (answer.ComputeErr error) = codes "error " ++ decimal error
 answer_words answer.RetriesExhausted = codes "exhausted"
 answer_words answer.Evicted = codes "evicted"
 answer_words answer.Kept = codes "kept"
+answer_words answer.End = codes "end"
 
 abbrev pub refusal_words : Refusal → List ℕ
 refusal_words refusal.UnknownCall = codes "UnknownCall"
@@ -68,6 +69,7 @@ reply_words reply.Going = codes "going"
 reply_words reply.Wait = codes "wait"
 reply_words (reply.Ask ask) = codes "ask " ++ ask_words ask
 reply_words (reply.Answer answer) = codes "answer " ++ answer_words answer
+reply_words (reply.Item key value) = codes "item " ++ decimal key ++ 32 ∷ decimal value
 reply_words reply.Told = codes "told"
 reply_words reply.Dropped = codes "dropped"
 reply_words (reply.Refused why) = codes "refused " ++ refusal_words why

@@ -42,6 +42,7 @@ start_words (start.Remove key) = codes "remove " ++ decimal key
 start_words (start.Evict key stamp cause) =
     codes "evict " ++ (decimal key ++ 32 ∷ chosen_words stamp cause)
 start_words start.InvalidateAll = codes "invalidate_all"
+start_words start.Iter = codes "iter"
 
 -- what an ask is told
 abbrev pub told_words : Told ℕ ℕ → List ℕ
@@ -79,6 +80,7 @@ StartFits (start.Invalidate key) = key < 2 ^ 32
 StartFits (start.Remove key) = key < 2 ^ 32
 StartFits (start.Evict key stamp cause) = (key < 2 ^ 32) × (stamp < 2 ^ 64)
 StartFits start.InvalidateAll = Unit {0}
+StartFits start.Iter = Unit {0}
 
 -- errors are of 32 bits, as values are
 abbrev pub ToldFits : Told ℕ ℕ → Type 0

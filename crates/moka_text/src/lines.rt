@@ -126,6 +126,13 @@ fn is_for_all(bytes: &[u8]) -> bool
     bytes == b"invalidate_all".as_slice()
 }
 
+/// Whether a call is started to walk. The word is matched whole.
+fn is_walk(bytes: &[u8]) -> bool
+    ensures { result ≡ bytes_eq bytes.now (codes "iter") }
+{
+    bytes == b"iter".as_slice()
+}
+
 /// What a call is started for.
 fn start_of(bytes: &[u8]) -> Option<Start<u32, u32>>
     ensures { result ≡ start_of bytes.now }
@@ -142,6 +149,9 @@ fn start_of(bytes: &[u8]) -> Option<Start<u32, u32>>
     }
     if is_for_all(bytes) {
         return Some(Start::InvalidateAll);
+    }
+    if is_walk(bytes) {
+        return Some(Start::Iter);
     }
     let (word, rest) = cut(bytes, b' ');
     start_by(word, rest)

@@ -99,6 +99,7 @@ fn push_answer(text: &mut String, answer: &Answer<u32, u32, u32>) -> Result<(), 
         Answer::RetriesExhausted => text.push_str("answer exhausted\n"),
         Answer::Evicted => text.push_str("answer evicted\n"),
         Answer::Kept => text.push_str("answer kept\n"),
+        Answer::End => text.push_str("answer end\n"),
     }
 }
 
@@ -192,6 +193,16 @@ fn push_ask(text: &mut String, ask: &Ask<u32, u32>) -> Result<(), AllocError>
     }
 }
 
+/// Appends the line of a record that a walk gives.
+fn push_item(text: &mut String, key: u32, value: u32) -> Result<(), AllocError>
+    ensures { OnOk result (string_bytes text.new
+        ≡ string_bytes text.old ++ reply_line (Reply.Item key value)) }
+{
+    text.push_str("item ")?;
+    push_pair(text, key, value)?;
+    text.push_str("\n")
+}
+
 /// Appends the line of a reply.
 fn push_reply(text: &mut String, reply: &Reply<u32, u32, u32>) -> Result<(), AllocError>
     ensures { OnOk result (string_bytes text.new
@@ -204,6 +215,7 @@ fn push_reply(text: &mut String, reply: &Reply<u32, u32, u32>) -> Result<(), All
         Reply::Wait => text.push_str("wait\n"),
         Reply::Ask(ask) => push_ask(text, ask),
         Reply::Answer(answer) => push_answer(text, answer),
+        Reply::Item(key, value) => push_item(text, *key, *value),
         Reply::Told => text.push_str("told\n"),
         Reply::Dropped => text.push_str("dropped\n"),
         Reply::Refused(why) => push_refusal(text, *why),

@@ -11,6 +11,7 @@ use Rattle.moka_hist.specs.declared.record_tests.Tests as Tests
 use Rattle.moka_hist.specs.declared.rules.Rules.{Rules}
 use Rattle.moka_hist.specs.declared.replies.Reply.{Reply}
 use Rattle.moka_hist.specs.declared.replies.Reply.TheVariants as reply
+use Rattle.moka_machine.specs.TheTable.{the_division}
 use Rattle.moka_uses.specs.declared.reading.NoTests.{NoTests}
 
 -- no rule is set
@@ -56,7 +57,8 @@ pub record IsReadBack {K V : Type 0} (eq : K → K → Bool) (key : K) (value : 
     : Type 0 where
   pub stored : List (Reply K V ℕ)
   pub mid : State K V ℕ
-  pub stores : Run eq (IsLawful eq) (fresh K V ℕ no_rules log_size no_test) (storing key value) stored mid
+  pub stores : Run eq (IsLawful eq) (fresh K V ℕ (the_division K) no_rules log_size no_test)
+      (storing key value) stored mid
   pub call : Reply K V ℕ
   pub last : Reply K V ℕ
   pub final : State K V ℕ

@@ -4,6 +4,7 @@ ghost use Rattle.moka_hist.specs.State.{State, fresh};
 ghost use Rattle.moka_hist.specs.Run.{IsReached};
 ghost use Rattle.moka_hist.specs.declared.replies.Reply.{Reply};
 ghost use Rattle.moka_machine.specs.Machine.{MachineIs, IsValid};
+ghost use Rattle.moka_machine.specs.TheTable.{the_division};
 ghost use Rattle.moka_run.specs.Running.{Answers};
 ghost use Rattle.moka_uses.specs.ReadBack.{IsReadBack, found_in, log_size, looking, no_rules, no_test, no_tests, storing};
 
@@ -117,7 +118,7 @@ fn build<K: Eq + Hash + Exact, V: Exact>(
     alloc: Global,
 ) -> Result<Machine<K, V, u16, NoTests>, AllocError>
     ensures fresh { IfOk result (λ cache. MachineIs K.eq no_tests cache
-        (fresh K V ℕ no_rules log_size no_test)) }
+        (fresh K V ℕ (the_division K) no_rules log_size no_test)) }
     ensures valid { IfOk result (λ cache. IsValid K.eq no_tests cache) }
 {
     match Machine::build(alloc, RULES, LOG, NoTests) {

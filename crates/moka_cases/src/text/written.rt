@@ -116,6 +116,18 @@ fn every_form_of_answer_is_written(rt: HostRuntime) -> Result<(), Fail> {
 }
 
 #[test]
+fn every_form_of_a_walk_is_written(rt: HostRuntime) -> Result<(), Fail> {
+    let replies = [
+        Reply::Item(0, u32::MAX),
+        Reply::Item(u32::MAX, 0),
+        Reply::Answer(Answer::End),
+    ];
+    let want = "item 0 4294967295\nitem 4294967295 0\nanswer end\n";
+    assert!(rt; is_written(rt.alloc(), &replies, want)?);
+    Ok(())
+}
+
+#[test]
 fn every_form_of_what_was_computed_is_written(rt: HostRuntime) -> Result<(), Fail> {
     let replies = [
         computed(CompResult::Inserted(entry(5))),

@@ -266,7 +266,7 @@ fn step_get<K: Eq + Exact, V: Exact, E: Exact>(
     ensures { OnOk result
         (NotesOne ground.old.bare.notes.items ground.new.bare.notes.items) }
 {
-    let mut flow = Flow::new(Start::Get { key }, 1, RULES);
+    let mut flow = Flow::new(Start::Get { key }, 1, RULES, 1);
     let stepped = step(&mut flow, ground);
     drop(flow);
     stepped
@@ -281,7 +281,7 @@ fn poll_get<K: Eq + Exact, V: Exact, E: Exact>(
     requires begun { ground.old.begun ≡ None }
     ensures { OnOk result (NotesPoll key ground.old.notes.items ground.new.notes.items) }
 {
-    let mut flow = Flow::new(Start::Get { key }, 1, RULES);
+    let mut flow = Flow::new(Start::Get { key }, 1, RULES, 1);
     let polled = poll(&mut flow, ground);
     drop(flow);
     polled

@@ -55,6 +55,7 @@ pub(crate) fn start_named(name: &str) -> Option<Start<u32, u32>> {
         "remove" => Some(Start::Remove { key: KEY }),
         "invalidate" => Some(Start::Invalidate { key: KEY }),
         "invalidate all" => Some(Start::InvalidateAll),
+        "iter" => Some(Start::Iter),
         "evict" => evict(2),
         "evict another" => evict(1),
         _ => load_named(name),
@@ -83,6 +84,7 @@ fn load_named(name: &str) -> Option<Start<u32, u32>> {
 pub(crate) fn given(access: &str, word: &str) -> Option<Got<u32, u32, u32>> {
     match access {
         "get" | "insert" | "insert if absent" | "remove" | "table" => of_table(word),
+        "list the first part" | "list another part" => of_table(word),
         "take owed" | "post write" => of_writes(word),
         "lock key" | "unlock key" | "open notice" | "notice ended" => of_notices(word),
         "take told" => of_asks(word),
@@ -198,6 +200,8 @@ fn of_others(word: &str) -> Option<Got<u32, u32, u32>> {
         "told" => desk(Found::Clock(4)),
         "seen" => desk(Found::Judge(true)),
         "not seen" => desk(Found::Judge(false)),
+        "visible" => desk(Found::Scan(true)),
+        "hidden" => desk(Found::Scan(false)),
         "it does" => desk(Found::Holds(true)),
         "no more" => desk(Found::Holds(false)),
         "opened" => desk(Found::OpenAsk),

@@ -8,6 +8,8 @@ pub(crate) fn want_name(want: &Want<u32, u32, u32>) -> &'static str {
         Want::Begin(TableOp::InsertOrModify { .. }) => "insert",
         Want::Begin(TableOp::InsertIfAbsent { .. }) => "insert if absent",
         Want::Begin(TableOp::RemoveIf { .. }) => "remove",
+        Want::Begin(TableOp::Keys { part: 0 }) => "list the first part",
+        Want::Begin(TableOp::Keys { .. }) => "list another part",
         Want::Table => "table",
         Want::Desk(visit) => visit_name(visit),
     }
@@ -27,6 +29,7 @@ fn visit_name(visit: &Visit<u32, u32, u32>) -> &'static str {
             replace: Some(_),
             ..
         } => "judge by test",
+        Visit::Scan { .. } => "scan",
         Visit::Holds { .. } => "holds",
         Visit::WaitOrOwn { .. } => "wait or own",
         Visit::OwnAlone { .. } => "own alone",
@@ -68,6 +71,7 @@ pub(crate) fn turn_name(turn: &Turn<u32, u32, u32>) -> &'static str {
         Turn::Wait => "wait",
         Turn::Ask(ask) => ask_name(ask),
         Turn::Answer(answer) => answer_name(answer),
+        Turn::Item(_, _) => "item",
     }
 }
 
@@ -94,6 +98,7 @@ fn answer_name(answer: &Answer<u32, u32, u32>) -> &'static str {
         Answer::RetriesExhausted => "exhausted",
         Answer::Evicted => "evicted",
         Answer::Kept => "kept",
+        Answer::End => "end",
     }
 }
 

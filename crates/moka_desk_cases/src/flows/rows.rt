@@ -37,6 +37,7 @@ fn is_found_by(visit: &Visit<u32, u32, u32>, found: &Found<u32, u32>) -> bool
         Visit::OpenNotice { .. } => matches!(found, Found::OpenNotice(_)),
         Visit::StampMoment { .. } => matches!(found, Found::StampMoment(_)),
         Visit::Judge { .. } => matches!(found, Found::Judge(_)),
+        Visit::Scan { .. } => matches!(found, Found::Scan(_)),
         Visit::Holds { .. } => matches!(found, Found::Holds(_)),
         Visit::WaitOrOwn { .. } => matches!(found, Found::WaitOrOwn(_)),
         Visit::OwnAlone { .. } => matches!(found, Found::OwnAlone(_)),
@@ -54,7 +55,7 @@ fn is_found_by(visit: &Visit<u32, u32, u32>, found: &Found<u32, u32>) -> bool
 
 // One step of the flow: the turn that is left where it wants this access, and what that gives
 // belongs to it; None otherwise, and where the flow has answered.
-fn stepped(
+pub(crate) fn stepped(
     flow: &mut Flow<u32, u32, u32>,
     access: &str,
     given: Got<u32, u32, u32>,
@@ -123,11 +124,12 @@ pub(crate) fn plays(flow: &mut Flow<u32, u32, u32>, rows: &str) -> Result<bool, 
     Ok(first_wrong(flow, rows)?.is_none())
 }
 
-// A fresh call, of the number 7: what is started, and the rules, by their names.
+// A fresh call, of the number 7, over a table of two parts: what is started, and the rules, by their
+// names.
 pub(crate) fn fresh(start: &str, rules: &str) -> Option<Flow<u32, u32, u32>> {
     let rules = rules_named(rules)?;
     let start = start_named(start)?;
-    Some(Flow::new(start, 7, rules))
+    Some(Flow::new(start, 7, rules, 2))
 }
 
 // The first row of such a call that is wrong; the row 0 where there is no such call.

@@ -1,6 +1,6 @@
 use Rattle.std.proofs.Common.{◌≡◌, Some, length, refl, sym, subst, ◌∙◌}
 use Rattle.std.proofs.lemmas.Option.{slice_get_read, slice_get_within}
-use Rattle.moka_hist.specs.Tables.{key_of}
+use Rattle.moka_buckets.specs.KeyOps.{key_of}
 use Rattle.moka_buckets.specs.Accesses.{StepsOnce, wanted_by}
 use Rattle.moka_buckets.specs.Arrays.{ArePlaced}
 use Rattle.moka_buckets.specs.Parts.{memory_at, peak_at, Goes}

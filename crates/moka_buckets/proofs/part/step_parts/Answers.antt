@@ -1,8 +1,8 @@
 use Rattle.std.proofs.Common.{Some, ap, refl, subst, sym, ◌∙◌, arith}
 use Rattle.std.specs.List.{slice_get}
+use Rattle.moka_buckets.specs.KeyOps.{key_of}
 use Rattle.moka_buckets.specs.Parts.{segment_of}
 use Rattle.moka_buckets.specs.Keys.{KeepsKeys}
-use Rattle.moka_hist.specs.Tables.{key_of}
 use Rattle.moka_buckets.specs.Accesses.{MovesOnce, StaysThere, wanted_by}
 use Rattle.moka_buckets.proofs.Once.{moves_once, stays_there}
 use Rattle.moka_buckets.proofs.Kept.{keeps_keys}

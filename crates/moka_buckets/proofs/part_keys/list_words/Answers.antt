@@ -1,4 +1,4 @@
-use Rattle.std.proofs.Common.{[], ◌∷◌, ◌++◌, ◌≤◌, length, arith, refl, sym, subst, ◌∙◌, append_assoc, of_calls}
+use Rattle.std.proofs.Common.{[], ◌∷◌, ◌++◌, refl, sym, subst, ◌∙◌, append_assoc, of_calls}
 use Rattle.std.proofs.lemmas.List.{drop_all, append-nil}
 use Rattle.std.specs.Map.{keys_of}
 use Rattle.moka_buckets.specs.Asking.{CallsEach}

@@ -1,7 +1,8 @@
 use Rattle.std.proofs.Common.{◌≡◌, Result, Ok, Err, OnErr, refl, sym, ap, subst, ◌∙◌}
 use Rattle.std.specs.declared.alloc.AllocError.{AllocError}
-use Rattle.moka_hist.specs.Tables.{answer_of, key_of}
+use Rattle.moka_hist.specs.Tables.{answer_of}
 use Rattle.moka_words.specs.Effect.{Effect}
+use Rattle.moka_buckets.specs.KeyOps.{key_of}
 use Rattle.moka_buckets.specs.Nodes.{hash_by, own_by, key_in, pair_at, Agrees, AreHashed}
 use Rattle.moka_buckets.specs.Arrays.{memory_of}
 use Rattle.moka_buckets.specs.Making.{CanMake}

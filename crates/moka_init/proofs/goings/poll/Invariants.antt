@@ -3,7 +3,7 @@ use Rattle.std.proofs.Common.{◌≡◌, ℕ, List, Some}
 use Rattle.moka_hist.specs.Bound.{as_told}
 use Rattle.moka_bound.specs.Ahead.{ahead}
 use Rattle.moka_init.specs.FlowPlan.{call_of, IsLive}
-use Rattle.moka_init.specs.Grounds.{IsOn}
+use Rattle.moka_init.specs.Grounds.{IsOn, work_for}
 use Rattle.moka_init.specs.Steps.{GoesThere}
 use Rattle.moka_init.specs.Telling.{TellsSteps}
 use Rattle.moka_init.proofs.goings.poll.Given as goal
@@ -23,4 +23,4 @@ invariant-loop-turn g l =
 
 -- each lowers how many it may still make
 abbrev pub decreases-loop-turn : goal.decreases-loop-turn
-decreases-loop-turn g l = ahead (g.G.Ground.account l.ground).work (call_of l.flow)
+decreases-loop-turn g l = ahead (work_for (g.G.Ground.account l.ground) l.flow) (call_of l.flow)

@@ -70,5 +70,5 @@ returns-clause-nears g c = λ going w h may has_log.
     let is = subst (λ n. Counts n r.0 (g.G.Ground.account c.access.new.self).work)
     (told.call ∙ c.requires.on.call) (g.met.G.Ground.counts c.access.new.self r.0 r.2) in
     near g.K.PartialEq.eq c.args.flow.now c.take.new.self c.take.result w r.0 c.in_ok-given.given
-    (g.G.Ground.account c.args.ground.now).work (g.G.Ground.account c.access.new.self).work
-    (rw was.size has_log) may gets next going was is told.shortens
+    (g.G.Ground.account c.args.ground.now) (g.G.Ground.account c.access.new.self)
+    (rw was.size has_log) may gets next going was is told

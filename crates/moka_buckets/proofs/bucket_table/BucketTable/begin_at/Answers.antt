@@ -1,5 +1,5 @@
 use Rattle.std.proofs.Common.{◌≡◌, None, ap, subst, sym, refl, max}
-use Rattle.moka_hist.specs.Tables.{key_of}
+use Rattle.moka_buckets.specs.KeyOps.{key_of}
 use Rattle.moka_buckets.specs.Hashing.{hash_in}
 use Rattle.moka_buckets.specs.Parts.{FitsParts}
 use Rattle.moka_buckets.specs.Views.{fits_in, left_of, first_of, peak_of}

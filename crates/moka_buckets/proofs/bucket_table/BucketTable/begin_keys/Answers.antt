@@ -1,4 +1,5 @@
-use Rattle.std.proofs.Common.{◌<◌, ◌≤◌, length, max, subst}
+use Rattle.std.proofs.Common.{◌<◌, ◌≤◌, ap, length, max, subst}
+use Rattle.moka_buckets.specs.Walks.{listed_by}
 use Rattle.moka_table.specs.Map.{most_steps}
 use Rattle.moka_buckets.specs.Hashing.{hash_in}
 use Rattle.moka_buckets.specs.Views.{covers_in, first_of, fits_keys_in, left_keys_of, lists_in, peak_of}
@@ -28,3 +29,6 @@ returns-clause-left g c = subst (λ o. left_keys_of o (record { segment = c.args
     (record { segment = c.args.segment; table = c.new.result })
     (begun_keys g.K.PartialEq.eq (hash_in g.S.BuildHasher g.S.Hasher.Hasher g.K.Hash.hash_input c.self.inside.hasher) c.self.inside.parts.items
     (record { segment = c.args.segment; table = c.new.result }) c.new.ensures))
+
+pub returns-clause-listed : goal.returns-clause-listed
+returns-clause-listed g c = ap listed_by c.new.ensures

@@ -1,8 +1,7 @@
-use Rattle.std.proofs.Common.{◌≡◌, ℕ, ap, max, subst, sym, ◌∙◌}
+use Rattle.std.proofs.Common.{◌≡◌, ap, max, subst, sym, ◌∙◌}
 use Rattle.std.specs.List.{fold}
 use Rattle.std.specs.Option.{option_copied, option_map}
 use Rattle.moka_hist.specs.declared.records.Stored.{Stored}
-use Rattle.moka_buckets.specs.Asking.{Asks}
 use Rattle.moka_buckets.specs.Hashing.{hash_in}
 use Rattle.moka_buckets.specs.Looking.{CanLook}
 use Rattle.moka_buckets.specs.Parts.{map_over}

@@ -4,9 +4,11 @@ use Rattle.moka_buckets.specs.declared.bucket_call.BucketCall.{BucketCall}
 use Rattle.moka_buckets.specs.declared.keys_call.KeysCall.{KeysCall}
 use Rattle.moka_buckets.specs.Accesses.{MovesOnce, wanted_by}
 use Rattle.moka_buckets.specs.Hashing.{hash_in}
-use Rattle.moka_buckets.specs.Keys.{CoversIt, FitsKeys, ListsIt, WalksOver, left_keys}
+use Rattle.moka_buckets.specs.Keys.{CoversIt, FitsKeys, ListsIt, WalksOver, left_keys, nodes_of}
 use Rattle.moka_buckets.specs.Parts.{FitsParts, map_over}
-use Rattle.moka_buckets.specs.Views.{covers_in, fits_in, fits_keys_in, left_keys_of, lists_in, map_in, segment_for}
+use Rattle.moka_buckets.specs.Views.{covers_in, fits_in, fits_keys_in, left_keys_of, listed_of, lists_in, map_in, segment_for, word_of}
+use Rattle.moka_buckets.specs.Walks.{carried, node_next}
+use Rattle.moka_buckets.proofs.KeyLists.{few_at, listing_at, own_key}
 use Rattle.moka_buckets.proofs.Keyed.{keys_bounded}
 use Rattle.moka_buckets.proofs.Spread.{bounded}
 use Rattle.moka_buckets.proofs.bucket_table.BucketTable.step_keys.Given as given
@@ -121,3 +123,22 @@ returns-clause-one g c = subst (λ o. MovesOnce g.K.PartialEq.eq (hash_in g.S.Bu
       fits = subst (λ o. fits_keys_in g.S.BuildHasher g.S.Hasher.Hasher g.K.PartialEq.eq g.K.Hash.hash_input o c.args.call.now) (sym c.self.view_is) c.requires.fits;
       going = c.requires.going;
     }))
+
+pub returns-clause-adds : goal.returns-clause-adds
+returns-clause-adds g c = subst (λ o. IfOk c.walk_parts.result (λ done. listed_of c.walk_parts.new.call ≡ carried (listed_of c.args.call.now)
+    (word_of o c.args.call.now) (node_next (word_of o c.args.call.now)))) c.self.view_is (over g c).adds
+
+pub returns-clause-nodes : goal.returns-clause-nodes
+returns-clause-nodes g c = subst (λ o. (i : ℕ) → nodes_of c.walk_parts.new.parts.items i ≡ nodes_of o.parts i) c.self.view_is (over g c).nodes
+
+pub returns-clause-own : goal.returns-clause-own
+returns-clause-own g c = λ key lists. own_key g.K.PartialEq.eq (H g c) (max 128 c.self.inside.first) (max c.self.inside.peak c.self.inside.len) c.self.inside.len
+    c.walk_parts.new.parts.items (over g c).well c.walk_parts.new.call (over g c).fits key lists
+
+pub returns-clause-listing : goal.returns-clause-listing
+returns-clause-listing g c = listing_at g.K.PartialEq.eq (H g c) (max 128 c.self.inside.first) (max c.self.inside.peak c.self.inside.len) c.self.inside.len
+    c.walk_parts.new.parts.items (over g c).well c.walk_parts.new.call (over g c).fits c.walk_parts.result (over g c).ended
+
+pub returns-clause-few : goal.returns-clause-few
+returns-clause-few g c = few_at g.K.PartialEq.eq (H g c) (max 128 c.self.inside.first) (max c.self.inside.peak c.self.inside.len) c.self.inside.len
+    c.walk_parts.new.parts.items (over g c).well c.walk_parts.new.call (over g c).fits c.walk_parts.result (over g c).ended

@@ -17,6 +17,9 @@ returns-in-Writing-clause-ok g c = needs c.args.self.now _ c.in-Writing.is _ c.w
 pub returns-in-Removing-clause-ok : goal.returns-in-Removing-clause-ok
 returns-in-Removing-clause-ok g c = needs c.args.self.now _ c.in-Removing.is _ c.removing_need.ensures
 
+pub returns-in-Walking-clause-ok : goal.returns-in-Walking-clause-ok
+returns-in-Walking-clause-ok g c = needs c.args.self.now _ c.in-Walking.is _ c.walking_need.ensures
+
 pub returns-in-Loading-clause-ok : goal.returns-in-Loading-clause-ok
 returns-in-Loading-clause-ok g c = may_need c.args.self.now _ c.in-Loading.is _ c.loading_need.ensures.ok
 

@@ -37,3 +37,9 @@ returns-in-Listening-clause-want g c = wants c.args.self.now _ c.in-Listening.is
 
 pub returns-in-Listening-clause-err : goal.returns-in-Listening-clause-err
 returns-in-Listening-clause-err g c = copies c.args.self.now _ c.in-Listening.is _ c.want_listening.ensures.err
+
+pub returns-in-Walking-clause-want : goal.returns-in-Walking-clause-want
+returns-in-Walking-clause-want g c = wants c.args.self.now _ c.in-Walking.is _ c.want_walking.ensures.want
+
+pub returns-in-Walking-clause-err : goal.returns-in-Walking-clause-err
+returns-in-Walking-clause-err g c = copies c.args.self.now _ c.in-Walking.is _ c.want_walking.ensures.err

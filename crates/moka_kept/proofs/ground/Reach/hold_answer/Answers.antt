@@ -41,4 +41,5 @@ returns-clause-kept g c =
       log = kept.log;
       decided = kept.decided;
       none_begun = kept.none_begun;
+      unlisted = kept.unlisted;
     }

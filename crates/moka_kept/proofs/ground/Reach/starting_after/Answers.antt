@@ -2,6 +2,7 @@
 -- of a sound world.
 use Rattle.std.proofs.Common.{false, refl, sym, subst, arith}
 use Rattle.moka_hist.specs.State.{empty_table, fresh_desk}
+use Rattle.moka_table.specs.Plain.{plain_part, plain_parts}
 use Rattle.moka_kept.specs.Kept.{IsKept}
 use Rattle.moka_kept.proofs.ground.Reach.starting_after.Goals as goal
 
@@ -11,12 +12,12 @@ returns g c =
     let none = empty.peak in
     subst (λ layers. IsKept g.K.PartialEq.eq layers) (sym c.over.ensures.layers) (record {
       world = record {
-        table = empty_table g.row.K.Denot g.row.V.Denot;
+        table = empty_table g.row.K.Denot g.row.V.Denot (record { parts = plain_parts; part_of = plain_part });
         desk = record (fresh_desk g.row.K.Denot g.row.V.Denot g.row.E.Denot c.args.rules 384 (λ test key value. false)) { last = c.args.last };
         stay = record { call = 0; times = 0 };
       };
       stands = record {
-        table = record { map = empty.map; keys = empty.count; peak = omega (arith, none); first = empty.first };
+        table = record { map = empty.map; keys = empty.count; peak = omega (arith, none); first = empty.first; parts = refl; part_of = λ q. refl };
         desk = c.in_ok-desk.ensures.stands (λ test key value. false);
         tests = refl;
         stay = omega arith;
@@ -25,4 +26,5 @@ returns g c =
       log = omega arith;
       decided = refl;
       none_begun = refl;
+      unlisted = λ n. refl;
     })

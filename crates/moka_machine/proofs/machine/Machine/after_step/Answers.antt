@@ -25,3 +25,8 @@ pub returns-in-Ask-clause-stands : goal.returns-in-Ask-clause-stands
 returns-in-Ask-clause-stands g c = λ others w h on leaves.
     subst (λ (t : Turn g.row.K.Denot g.row.V.Denot g.row.E.Denot). MachineIs g.K.PartialEq.eq g.T.Tests c.put_in_with-in-Ask.new.self (record { world = w; calls = put_at others c.args.call (left_in t c.args.flow.value) })) (sym c.in-Ask.is)
     (c.put_in_with-in-Ask.ensures.stands others w h (record { on = on; live = subst (λ (t : Turn g.row.K.Denot g.row.V.Denot g.row.E.Denot). Leaves t c.args.flow.value) c.in-Ask.is leaves }))
+
+pub returns-in-Item-clause-stands : goal.returns-in-Item-clause-stands
+returns-in-Item-clause-stands g c = λ others w h on leaves.
+    subst (λ (t : Turn g.row.K.Denot g.row.V.Denot g.row.E.Denot). MachineIs g.K.PartialEq.eq g.T.Tests c.put_in_with-in-Item.new.self (record { world = w; calls = put_at others c.args.call (left_in t c.args.flow.value) })) (sym c.in-Item.is)
+    (c.put_in_with-in-Item.ensures.stands others w h (record { on = on; live = subst (λ (t : Turn g.row.K.Denot g.row.V.Denot g.row.E.Denot). Leaves t c.args.flow.value) c.in-Item.is leaves }))

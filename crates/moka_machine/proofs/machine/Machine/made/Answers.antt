@@ -4,6 +4,7 @@ use Rattle.std.specs.Option.{option_map}
 use Rattle.moka_hist.specs.State.{fresh}
 use Rattle.moka_machine.specs.Calls.{IsUsed, runs_in}
 use Rattle.moka_machine.specs.Machine.{call_in}
+use Rattle.moka_machine.specs.TheTable.{the_division}
 use Rattle.moka_machine.specs.declared.calls.Running.{Running}
 use Rattle.moka_machine.proofs.machine.Machine.made.Goals as goal
 
@@ -13,7 +14,14 @@ returns-clause-fresh g c =
     let none = empty.peak in
     record {
       world = record {
-        table = record { map = empty.map; keys = empty.count; peak = omega (arith, none); first = empty.first };
+        table = record {
+          map = empty.map;
+          keys = empty.count;
+          peak = omega (arith, none);
+          first = empty.first;
+          parts = refl;
+          part_of = λ q. refl;
+        };
         desk = c.in_ok-desk.ensures.stands (g.T.Tests.answers c.args.tests);
         tests = refl;
         stay = omega arith;
@@ -27,7 +35,17 @@ returns-clause-fresh g c =
 pub returns-clause-valid : goal.returns-clause-valid
 returns-clause-valid g c =
     record {
-      state = fresh g.row.K.Denot g.row.V.Denot g.row.E.Denot c.args.rules c.args.log (g.T.Tests.answers c.args.tests);
+      state = fresh g.row.K.Denot g.row.V.Denot g.row.E.Denot (the_division g.row.K.Denot) c.args.rules c.args.log (g.T.Tests.answers c.args.tests);
       stands = returns-clause-fresh g c;
-      reached = record { rules = c.args.rules; size = c.args.log; tests = g.T.Tests.answers c.args.tests; has_log = c.requires.least; events = []; replies = []; run = refl };
+      reached = record {
+        division = the_division g.row.K.Denot;
+        divides = record { some = omega arith; few = omega arith; part = λ q. omega arith; alike = λ a b e. refl };
+        rules = c.args.rules;
+        size = c.args.log;
+        tests = g.T.Tests.answers c.args.tests;
+        has_log = c.requires.least;
+        events = [];
+        replies = [];
+        run = refl;
+      };
     }

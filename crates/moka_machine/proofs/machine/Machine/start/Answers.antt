@@ -1,5 +1,5 @@
 -- The call starts where room was made for it.
-use Rattle.std.proofs.Common.{◌≡◌, IfOk, rules, subst}
+use Rattle.std.proofs.Common.{◌≡◌, IfOk, subst}
 use Rattle.std.proofs.lemmas.Result.{IfOk-weaker, on_err_weaker}
 use Rattle.moka_hist.specs.declared.events.Event.TheVariants as event
 use Rattle.moka_hist.specs.declared.events.Start.{Start}
@@ -8,7 +8,7 @@ use Rattle.moka_machine.proofs.machine.Machine.start.Goals as goal
 
 pub returns-clause-serves : goal.returns-clause-serves
 returns-clause-serves g c =
-    let same : c.in_ok-start.start ≡ c.args.start.now = search (rules, c.in_ok-start.ensures.cases, g.met.K.Exact.exact, g.met.V.Exact.exact) in
+    let same : c.in_ok-start.start ≡ c.args.start.now = c.in_ok-start.ensures.same in
     subst (λ (x : Start g.row.K.Denot g.row.V.Denot). IfOk c.enter.result (λ r. ServesEvent g.K.PartialEq.eq g.T.Tests c.args.self.now (event.Start x) r c.enter.new.self)) same
     (IfOk-weaker c.enter.result _ _ (λ r serves s h reached. serves s (c.make_room.ensures.same s h) reached) c.enter.ensures.serves)
 

@@ -9,7 +9,8 @@ returns-then-self-eq0-clause-serves g c =
       gives = looked_bare g.K.PartialEq.eq c.args.self.now.undecided c.args.key;
       form = tt;
       begins = refl;
-      shortens = record { within = omega arith; raises = omega arith; going = λ e. absurd (cc) };
+      lists = omega arith;
+      shortens = λ keys. record { within = omega arith; raises = omega arith; going = λ e. absurd (cc); keys = omega arith };
       notes = search rules;
       is_noted = refl;
     }
