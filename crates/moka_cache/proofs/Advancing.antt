@@ -3,6 +3,7 @@ use Rattle.std.proofs.Common.{◌≡◌, ◌⊎◌, ◌↔◌, Bool, Option, Res
 use Rattle.futures.specs.declared.task.Poll.TheVariants.{Ready}
 use Rattle.moka_hist.specs.State.{Call}
 use Rattle.moka_hist.specs.declared.replies.Answer.{Answer}
+use Rattle.moka_init.specs.FlowPlan.{IsOver}
 use Rattle.moka_init.specs.declared.flow.Flow.{Flow}
 use Rattle.moka_kept.specs.Rests.{Rests}
 use Rattle.moka_kept.specs.Stops.{CameTo}
@@ -20,7 +21,7 @@ module _ {A K V E : Type 0} (eq : K → K → Bool) (such : Taken V E → Type 0
       → (begins : A → Call K V E) → AnswersWith eq such begins s answer
   answers_at new r answer is polled begins =
       subst (λ (x : Stage A K V E). AnswersWith eq such begins x answer) (sym at)
-      (subst (λ (x : Result (Answer K V E) PollError). PollIs eq such old (Ready x) new) is polled)
+      (subst (λ (x : Result (Answer K V E) PollError). PollIs eq such old (Ready x) new) is polled).0
 
   -- it came on as its call did
   pub came_at : (new : Flow K V E) → CameTo eq such old new → (begins : A → Call K V E) → CameOnWith eq such begins s (stage.Running new)
@@ -42,6 +43,11 @@ module _ {A K V E : Type 0} (s : Stage A K V E) (old : Flow K V E) (at : s ≡ s
   -- it rests, where the state may be polled
   pub rests_at : MayPoll s → Rests old
   rests_at may = subst (λ (x : Stage A K V E). MayPoll x) at may
+
+-- nothing is left of it once it has answered
+pub over_at : {K V E : Type 0} (eq : K → K → Bool) (such : Taken V E → Type 0) (old new : Flow K V E) (r : Result (Answer K V E) PollError) (answer : Answer K V E) → r ≡ Ok answer
+    → PollIs eq such old (Ready r) new → IsOver new
+over_at {K} {V} {E} eq such old new r answer is polled = (subst (λ (x : Result (Answer K V E) PollError). PollIs eq such old (Ready x) new) is polled).1
 
 -- also where its poll failed
 pub failed_at : {K V E : Type 0} (eq : K → K → Bool) (such : Taken V E → Type 0) (old new : Flow K V E) (r : Result (Answer K V E) PollError) (e : PollError) → r ≡ Err e

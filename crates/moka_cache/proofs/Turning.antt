@@ -77,7 +77,7 @@ module _ {K V E : Type 0} (eq : K → K → Bool) (such : Taken V E → Type 0) 
 
   -- turns after turns
   pub polls_on : (a b : Flow K V E) (poll : Poll (Result (Answer K V E) PollError)) (c : Flow K V E) → CameTo eq such a b → PollIs eq such b poll c → PollIs eq such a poll c
-  polls_on a b (Ready (Ok answer)) c before end = answers_on eq such a b answer before end
+  polls_on a b (Ready (Ok answer)) c before end = (answers_on eq such a b answer before end.0, end.1)
   polls_on a b (Ready (Err e)) c before after = (after.0, came_to_on eq such a b c before after.1)
   polls_on a b Pending c before after = came_to_on eq such a b c before after
 
@@ -104,7 +104,7 @@ module _ {K V E : Type 0} (eq : K → K → Bool) (such other : Taken V E → Ty
   -- less is known of the answers that are taken
   pub turns_weaker : (old : Flow K V E) (t : Option (Poll (Result (Answer K V E) PollError))) (new : Flow K V E) → TurnIs eq such old t new → TurnIs eq other old t new
   turns_weaker old None new after = came_to_weaker eq such other weaker old new after
-  turns_weaker old (Some (Ready (Ok answer))) new end = ended_weaker eq such other weaker old.call (call_of old) (answers answer) end
+  turns_weaker old (Some (Ready (Ok answer))) new end = (ended_weaker eq such other weaker old.call (call_of old) (answers answer) end.0, end.1)
   turns_weaker old (Some (Ready (Err e))) new after = (after.0, came_to_weaker eq such other weaker old new after.1)
   turns_weaker old (Some Pending) new after = came_to_weaker eq such other weaker old new after
 

@@ -4,7 +4,7 @@ use Rattle.futures.specs.declared.task.Poll.{Poll}
 use Rattle.futures.specs.declared.task.Poll.TheVariants.{Ready, Pending}
 use Rattle.moka_hist.specs.declared.replies.Answer.{Answer}
 use Rattle.moka_hist.specs.declared.replies.Ask.TheVariants as ask
-use Rattle.moka_init.specs.FlowPlan.{call_of, tested_in}
+use Rattle.moka_init.specs.FlowPlan.{IsOver, call_of, tested_in}
 use Rattle.moka_init.specs.Grounds.{access_at}
 use Rattle.moka_init.specs.declared.flow.Flow.{Flow}
 use Rattle.moka_kept.specs.Stops.{AnswersFrom, CameTo, LeftAsking, Waits}
@@ -14,11 +14,11 @@ use Rattle.moka_cache.specs.declared.errors.PollError.{PollError}
 use Rattle.moka_cache.specs.declared.errors.PollError.TheVariants as error
 
 module _ {K V E : Type 0} where
-  -- The poll's answer follows from the last of the accesses that the call made since; or the call
-  -- came to where its flow stands.
+  -- The poll's answer follows from the last of the accesses that the call made since, and nothing is
+  -- left of that; or the call came to where its flow stands.
   abbrev pub PollIs : (K → K → Bool) → (Taken V E → Type 0) → Flow K V E
       → Poll (Result (Answer K V E) PollError) → Flow K V E → Type 0
-  PollIs eq such old (Ready (Ok answer)) new = AnswersFrom eq such old answer
+  PollIs eq such old (Ready (Ok answer)) new = AnswersFrom eq such old answer × IsOver new
   PollIs eq such old (Ready (Err e)) new = (e ≡ error.Memory) × CameTo eq such old new
   PollIs eq such old Pending new = CameTo eq such old new
 

@@ -4,7 +4,7 @@ use Rattle.moka_hist.specs.Next.{answers}
 use Rattle.moka_hist.specs.State.{Call}
 use Rattle.moka_hist.specs.declared.replies.Answer.{Answer}
 use Rattle.moka_hist.specs.declared.replies.Answer.TheVariants as answer
-use Rattle.moka_init.specs.FlowPlan.{call_of}
+use Rattle.moka_init.specs.FlowPlan.{IsOver, call_of}
 use Rattle.moka_kept.specs.Kept.{NumbersSpent}
 use Rattle.moka_kept.specs.Paths.{CameWith, EndedWith}
 use Rattle.moka_kept.specs.Rests.{Rests}
@@ -34,6 +34,16 @@ module _ {A K V E : Type 0} where
   MayPoll (stage.Running flow) = Rests flow
   MayPoll stage.Spent = Unit {0}
   MayPoll stage.Answered = ⊥
+
+  -- nothing is left of its call, if that has a number
+  abbrev pub MayEnd : Stage A K V E → Type 0
+  MayEnd (stage.Running flow) = IsOver flow
+  MayEnd _ = Unit {0}
+
+  -- the number of its call, where that has one and has not answered
+  abbrev pub number_in : Stage A K V E → Option ℕ
+  number_in (stage.Running flow) = Some flow.call
+  number_in _ = None
 
   -- it has no number yet, and what it begins with is so; a state with a number is not such
   abbrev pub BeginsWith : Stage A K V E → (A → Type 0) → Type 0

@@ -12,8 +12,7 @@ ghost use Rattle.moka_cache.specs.Asked.{AsksNothing, Untested};
 
 use futures::task::{Context, Poll};
 use moka_hist::{Entry, Told};
-use moka_init::Flow;
-use moka_kept::is_asking;
+use moka_kept::{Live, is_asking};
 use moka_values::Exact;
 
 /// What answers the own ask of a call, and its replace test: an initializer or a compute. It is
@@ -81,7 +80,7 @@ pub trait Asked<K, V, E>: Drop {
 
 /// Whether who is asked is to be polled, or begun: the own ask of the flow is open. Where there is
 /// nobody to be asked the flow isn't looked at.
-pub(crate) fn is_polled<K, V, E, Q: Asked<K, V, E>>(asked: &Q, flow: &Flow<K, V, E>) -> bool
+pub(crate) fn is_polled<K, V, E, Q: Asked<K, V, E>>(asked: &Q, flow: &Live<K, V, E>) -> bool
     ensures asking { OnTrue result (is_taking (access_at flow.now) ≡ true) }
     // Where it is open and isn't polled, nobody gives an answer.
     ensures unasked { OnFalse result (is_taking (access_at flow.now) ≡ true

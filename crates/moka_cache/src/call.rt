@@ -1,5 +1,6 @@
 //! A call of a cache, as a state that is polled.
 ghost use Rattle.std.specs.Prelude.{◌≡◌, ◌↔◌, Bool, IfOk, IfErr, OnOk, OnErr};
+ghost use Rattle.std.specs.Option.{option_map};
 ghost use Rattle.futures.specs.Poll.{IfReady, OnPending};
 ghost use Rattle.futures.specs.Task.{IsArmed, Keeps};
 ghost use Rattle.moka_cache.specs.Asked.{Accords};
@@ -7,6 +8,7 @@ ghost use Rattle.moka_cache.specs.Hearing.{Unheard};
 ghost use Rattle.moka_cache.specs.Settings.{listener_of, rules_of};
 ghost use Rattle.moka_hist.specs.declared.events.Told.{Told};
 ghost use Rattle.moka_cache.specs.Stages.{Begins, CameOnWith, IsNamed, MayPoll, StagePends};
+ghost use Rattle.moka_cache.specs.Stages.{number_in};
 ghost use Rattle.moka_cache.specs.Starts.{called};
 ghost use Rattle.moka_cache.specs.Suits.{StateAnswers, Suits, Tells};
 
@@ -19,6 +21,7 @@ use crate::polled::State;
 use crate::stage::{Nested, Stage, put};
 use futures::task::{Context, Poll};
 use moka_hist::Start;
+use moka_kept::Left;
 use moka_values::Exact;
 use std::hash::Hash;
 use std::marker::PhantomData;
@@ -162,12 +165,19 @@ where
         }
     }
 
-    /// Lets a state go. Where its call was begun that leaves as it stands, and those that wait for
-    /// it are woken.
-    pub(crate) fn let_go<R: Wait, A: Drop>(&self, rt: &R, stage: Stage<A, K, V, E>) {
+    /// Lets a state go. Where its call was begun, and has not answered, that leaves as it stands,
+    /// and those that wait for it are woken.
+    pub(crate) fn let_go<R: Wait, A: Drop>(&self, rt: &R, stage: Stage<A, K, V, E>) -> Option<Left>
+        ensures left { option_map (λ left. left.call) result ≡ number_in stage }
+    {
         match stage {
-            Stage::Running(flow) => self.leave(rt, flow),
-            other => drop(other),
+            Stage::Running(flow) => Some(self.leave(rt, flow)),
+            Stage::Fresh(begin) => {
+                drop(begin);
+                None
+            }
+            Stage::Spent => None,
+            Stage::Answered => None,
         }
     }
 }
@@ -260,7 +270,7 @@ where
         } = self;
         drop(named);
         drop(asked);
-        cache.let_go(rt, stage);
+        let _ = cache.let_go(rt, stage);
     }
 
     /// Lets a state go that has answered.
@@ -276,7 +286,10 @@ where
         } = self;
         drop(named);
         drop(asked);
-        drop(stage);
+        match stage {
+            Stage::Answered => {}
+            _ => unreachable!(),
+        }
     }
 }
 

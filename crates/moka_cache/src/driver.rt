@@ -14,14 +14,12 @@ use crate::cache::{Cache, Shared};
 use crate::errors::PollError;
 use crate::hearing::Turned;
 use crate::listener::Listener;
-use crate::stage::Stage;
+use crate::stage::{Stage, end};
 use futures::task::{Context, Poll};
 use moka_hist::{Answer, Start};
-use moka_init::Flow;
-use moka_kept::{Brought, Heard, Number};
+use moka_kept::{Brought, Heard, Left, Live, Number};
 use moka_values::Exact;
 use std::hash::Hash;
-use std::mem;
 use std::sync::Wait;
 
 impl<K, V, E, L, S> Cache<K, V, E, L, S>
@@ -51,7 +49,7 @@ where
     }
 
     /// The fresh flow of the call of this start and number.
-    pub(crate) fn flow_of(&self, number: Number, start: Start<K, V>) -> Flow<K, V, E>
+    pub(crate) fn flow_of(&self, number: Number, start: Start<K, V>) -> Live<K, V, E>
         ensures fresh { call_of result ≡ fresh_call 1 (rules_of self.now) start }
         ensures rests { Rests result }
     {
@@ -125,7 +123,7 @@ where
     fn go_on<R: Wait, Q: Asked<K, V, E>>(
         &self,
         rt: &R,
-        flow: &mut Flow<K, V, E>,
+        flow: &mut Live<K, V, E>,
         asked: &mut Q,
         cx: &mut Context<'_>,
         moment: u64,
@@ -157,7 +155,7 @@ where
     fn turn<R: Wait, Q: Asked<K, V, E>>(
         &self,
         rt: &R,
-        flow: &mut Flow<K, V, E>,
+        flow: &mut Live<K, V, E>,
         asked: &mut Q,
         heard: Option<Heard>,
         cx: &mut Context<'_>,
@@ -186,7 +184,7 @@ where
     fn ask<R: Wait, Q: Asked<K, V, E>>(
         &self,
         rt: &R,
-        flow: &mut Flow<K, V, E>,
+        flow: &mut Live<K, V, E>,
         asked: &mut Q,
         cx: &mut Context<'_>,
         moment: u64,
@@ -222,7 +220,7 @@ where
     fn round<R: Wait, Q: Asked<K, V, E>>(
         &self,
         rt: &R,
-        flow: &mut Flow<K, V, E>,
+        flow: &mut Live<K, V, E>,
         asked: &mut Q,
         brought: Brought<V, E>,
         heard: Option<Heard>,
@@ -246,15 +244,17 @@ where
     }
 
     /// Lets the call of the flow leave, where it stands, and wakes those that wait for it.
-    pub(crate) fn leave<R: Wait>(&self, rt: &R, flow: Flow<K, V, E>) {
+    pub(crate) fn leave<R: Wait>(&self, rt: &R, flow: Live<K, V, E>) -> Left
+        ensures { result.call ≡ flow.call }
+    {
         let shared: &Shared<K, V, E, L, S> = &self.shared;
-        shared.guarded.leave(rt, flow);
+        shared.guarded.leave(rt, flow)
     }
 }
 
 // What the next hold is brought where no ask of the call is open: the answer of its replace test,
 // where its next visit judges a record by that. A call that waits for another is never asked.
-fn ask_test<K, V, E, Q: Asked<K, V, E>>(asked: &mut Q, flow: &Flow<K, V, E>) -> Brought<V, E>
+fn ask_test<K, V, E, Q: Asked<K, V, E>>(asked: &mut Q, flow: &Live<K, V, E>) -> Brought<V, E>
     requires { Q.can_poll asked.old }
     ensures brings { (taken : Taken V E)
         → Brings (tested_in (call_of flow.now).plan) result taken
@@ -267,11 +267,4 @@ fn ask_test<K, V, E, Q: Asked<K, V, E>>(asked: &mut Q, flow: &Flow<K, V, E>) -> 
         Some(value) => Brought::Tested(asked.replaces(value)),
         None => Brought::Nothing,
     }
-}
-
-// The state has answered.
-fn end<A: Drop, K: Drop, V: Drop, E: Drop>(stage: &mut Stage<A, K, V, E>)
-    ensures { stage.new ≡ Stage.Answered }
-{
-    drop(mem::replace(stage, Stage::Answered));
 }

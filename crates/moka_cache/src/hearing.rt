@@ -16,8 +16,7 @@ use crate::errors::PollError;
 use crate::listener::Listener;
 use futures::task::{Context, Poll};
 use moka_hist::{Answer, Ask, Cause, Entry};
-use moka_init::Flow;
-use moka_kept::{Heard, Stop};
+use moka_kept::{Heard, Live, Stop};
 use moka_values::Exact;
 use std::hash::Hash;
 
@@ -43,7 +42,7 @@ where
     /// end of a notice, which runs, that is polled.
     pub(crate) fn after<Q: Asked<K, V, E>>(
         &self,
-        flow: &Flow<K, V, E>,
+        flow: &Live<K, V, E>,
         stop: Stop<K, V, E>,
         asked: &mut Q,
         cx: &mut Context<'_>,
@@ -76,7 +75,7 @@ where
     // answers its own ask is polled in the next turn.
     fn after_ask<Q: Asked<K, V, E>>(
         &self,
-        flow: &Flow<K, V, E>,
+        flow: &Live<K, V, E>,
         ask: Ask<K, V>,
         asked: &mut Q,
         cx: &mut Context<'_>,
@@ -105,7 +104,7 @@ where
     // The call waits. If that is for the end of a notice, the listener is polled.
     fn after_wait(
         &self,
-        flow: &Flow<K, V, E>,
+        flow: &Live<K, V, E>,
         cx: &mut Context<'_>,
     ) -> Turned<Result<Answer<K, V, E>, PollError>>
         ensures pends { MayPend (over_in result) }
@@ -124,7 +123,7 @@ where
 
     // Starts the listener with the call's notice, if it is the listener that is asked; or begins
     // who answers the call's own ask, if that is of a compute.
-    fn start<Q: Asked<K, V, E>>(&self, flow: &Flow<K, V, E>, ask: Ask<K, V>, asked: &mut Q)
+    fn start<Q: Asked<K, V, E>>(&self, flow: &Live<K, V, E>, ask: Ask<K, V>, asked: &mut Q)
         requires asks { Q.can_poll asked.old }
         ensures begun { BegunFor Q.begins ask asked.old asked.new }
         ensures asked { AskedStays Q.can_poll Q.gives Q.tests asked.old asked.new }
@@ -145,7 +144,7 @@ where
 
     // Polls the listener for the notice whose end the call awaits. None where it awaits none, or
     // there is no listener.
-    fn hear(&self, flow: &Flow<K, V, E>, cx: &mut Context<'_>) -> Option<Poll<Heard>>
+    fn hear(&self, flow: &Live<K, V, E>, cx: &mut Context<'_>) -> Option<Poll<Heard>>
         ensures cause { result ≡ Some Poll.Pending
             → Awaits (Unheard L.pends self.now.listener) flow.now }
         ensures ended { IfSome result (λ polled. IfReady polled
@@ -190,7 +189,7 @@ fn entry_of<K, V>(found: Option<(K, V)>) -> Option<Entry<K, V>>
 // Polls this listener for the notice whose end the call awaits. None where it awaits none.
 fn hear_by<K: Drop, V: Drop, E: Drop, L: Listener<K, V>>(
     listener: &L,
-    flow: &Flow<K, V, E>,
+    flow: &Live<K, V, E>,
     cx: &mut Context<'_>,
 ) -> Option<Poll<Heard>>
     ensures cause { result ≡ Some Poll.Pending → Awaits (L.pends listener.now) flow.now }

@@ -1,5 +1,6 @@
 //! How far a state is.
 ghost use Rattle.std.specs.Prelude.{◌≡◌};
+ghost use Rattle.moka_cache.specs.Stages.{MayEnd};
 
 use moka_hist::{Answer, Cause, CompResult, Entry, Kind, Load, Mode, Rules, Sought, Stored, Write};
 use moka_init::points::{
@@ -8,15 +9,16 @@ use moka_init::points::{
     Uncopied, Walk, Writing,
 };
 use moka_init::{Flow, KeysLeft};
+use moka_kept::Live;
 use std::marker::PhantomData;
 use std::mem;
 
 /// How far a state is: it has no number yet, and only what it is to begin with; its call goes on as
-/// this flow; no number was left for it; or its call has answered.
-#[derive(Drop)]
+/// this flow; no number was left for it; or its call has answered. It has no `Drop`, since a flow of
+/// a call that has a number has none.
 pub(crate) enum Stage<A, K, V, E> {
     Fresh(A),
-    Running(Flow<K, V, E>),
+    Running(Live<K, V, E>),
     Spent,
     Answered,
 }
@@ -25,7 +27,8 @@ pub(crate) enum Stage<A, K, V, E> {
 /// this type, since its proof is to know them all.
 pub(crate) type Nested<K, V, E> = PhantomData<
     (
-        (Flow<K, V, E>, Option<E>, Rules, Mode, Write, Cause),
+        (Live<K, V, E>, Flow<K, V, E>, Option<E>, Rules),
+        (Mode, Write, Cause),
         (Answer<K, V, E>, CompResult<K, V>, Entry<K, V>),
         (Stored<V>, Load<K>, Sought<K>, Kind),
         (
@@ -59,12 +62,29 @@ pub(crate) type Nested<K, V, E> = PhantomData<
     ),
 >;
 
-/// The stage is this one from then on.
+/// The stage, whose call was known to have no number, is this one from then on.
 pub(crate) fn put<A: Drop, K: Drop, V: Drop, E: Drop>(
     stage: &mut Stage<A, K, V, E>,
     new: Stage<A, K, V, E>,
 )
+    requires { stage.old ≡ Stage.Spent }
     ensures { stage.new ≡ new }
 {
-    drop(mem::replace(stage, new));
+    match mem::replace(stage, new) {
+        Stage::Spent => {}
+        _ => unreachable!(),
+    }
+}
+
+/// The state has answered: nothing is left of its call, if that was begun.
+pub(crate) fn end<A: Drop, K: Drop, V: Drop, E: Drop>(stage: &mut Stage<A, K, V, E>)
+    requires { MayEnd stage.old }
+    ensures { stage.new ≡ Stage.Answered }
+{
+    match mem::replace(stage, Stage::Answered) {
+        Stage::Running(flow) => flow.end(),
+        Stage::Fresh(begin) => drop(begin),
+        Stage::Spent => {}
+        Stage::Answered => {}
+    }
 }

@@ -51,7 +51,7 @@ module _ {K V E : Type 0} (eq : K → K → Bool) (such : Taken V E → Type 0) 
   stops old turn.Wait new number begun live end = (came_by old new turn.Wait number begun live end, left_by old new turn.Wait number end)
   stops old (turn.Ask ask) new number begun live end =
       (came_by old new (turn.Ask ask) number begun live end, left_by old new (turn.Ask ask) number end)
-  stops old (turn.Answer answer) new number begun live end = end
+  stops old (turn.Answer answer) new number begun live end = (end, live)
   stops old (turn.Item key value) new number begun live end = came_by old new (turn.Item key value) number begun live end
 
   -- so does a step that may find no memory
@@ -80,7 +80,7 @@ module _ {K V E : Type 0} (eq : K → K → Bool) (such : Taken V E → Type 0) 
       ended_on eq such a.call (call_of a) (call_of b) (answers answer) before.came (subst (λ n. EndedWith eq such n (call_of b) (answers answer)) before.number end)
 
   pub stops_on : (a b : Flow K V E) (s : Stop K V E) (c : Flow K V E) → CameTo eq such a b → StopIs eq such b s c → StopIs eq such a s c
-  stops_on a b (stop.Answers answer) c before end = answers_on a b answer before end
+  stops_on a b (stop.Answers answer) c before end = (answers_on a b answer before end.0, end.1)
   stops_on a b stop.Going c before after = (came_to_on a b c before after.0, after.1)
   stops_on a b stop.Waits c before after = (came_to_on a b c before after.0, after.1)
   stops_on a b (stop.Asks ask) c before after = (came_to_on a b c before after.0, after.1)
@@ -97,7 +97,7 @@ module _ {K V E : Type 0} (eq : K → K → Bool) (such other : Taken V E → Ty
 
   -- less is known of the answers that are taken
   pub stops_weaker : (old : Flow K V E) (s : Stop K V E) (new : Flow K V E) → StopIs eq such old s new → StopIs eq other old s new
-  stops_weaker old (stop.Answers answer) new end = ended_weaker eq such other weaker old.call (call_of old) (answers answer) end
+  stops_weaker old (stop.Answers answer) new end = (ended_weaker eq such other weaker old.call (call_of old) (answers answer) end.0, end.1)
   stops_weaker old stop.Going new after = (came_to_weaker old new after.0, after.1)
   stops_weaker old stop.Waits new after = (came_to_weaker old new after.0, after.1)
   stops_weaker old (stop.Asks ask) new after = (came_to_weaker old new after.0, after.1)

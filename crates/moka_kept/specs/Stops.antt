@@ -5,7 +5,7 @@ use Rattle.moka_hist.specs.declared.replies.Answer.{Answer}
 use Rattle.moka_hist.specs.declared.replies.Ask.{Ask}
 use Rattle.moka_hist.specs.declared.accesses.Turn.{Turn}
 use Rattle.moka_hist.specs.declared.accesses.Turn.TheVariants as turn
-use Rattle.moka_init.specs.FlowPlan.{call_of, tested_in}
+use Rattle.moka_init.specs.FlowPlan.{IsOver, call_of, tested_in}
 use Rattle.moka_init.specs.declared.flow.Flow.{Flow}
 use Rattle.moka_kept.specs.Paths.{CameWith, EndedWith, LeftWith}
 use Rattle.moka_kept.specs.Rests.{Rests}
@@ -55,11 +55,11 @@ module _ {K V E : Type 0} where
       LeftWith eq flow.call (call_of flow) turn.Going
       ⊎ (is_some (tested_in (call_of flow).plan) ≡ true)
 
-  -- the steps left the call so: its answer follows from the last of its accesses; or it came to
-  -- where its flow stands
+  -- the steps left the call so: its answer follows from the last of its accesses, and nothing is
+  -- left of it; or it came to where its flow stands
   abbrev pub StopIs : (K → K → Bool) → (Taken V E → Type 0) → Flow K V E → Stop K V E → Flow K V E
       → Type 0
-  StopIs eq such old (stop.Answers answer) new = AnswersFrom eq such old answer
+  StopIs eq such old (stop.Answers answer) new = AnswersFrom eq such old answer × IsOver new
   StopIs eq such old stop.Going new = CameTo eq such old new × GoesOnWith eq new
   StopIs eq such old stop.Waits new = CameTo eq such old new × Waits eq new
   StopIs eq such old (stop.Asks ask) new = CameTo eq such old new × LeftAsking eq new ask

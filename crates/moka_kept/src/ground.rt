@@ -7,8 +7,9 @@ ghost use Rattle.moka_sync.specs.Waiting.{waits};
 ghost use Rattle.moka_kept.specs.Kept.{IsKept, ReachIs, MayReach, in_hand};
 ghost use Rattle.moka_kept.specs.Parked.{is_parked};
 
+use crate::guarded::ToWake;
 use crate::in_hand::InHand;
-use crate::parked::{HandedOut, Parked, Wakers};
+use crate::parked::{HandedOut, Parked};
 use moka_hist::{Got, Want};
 use moka_init::{Alone, Ground};
 use moka_layers::Layers;
@@ -42,7 +43,7 @@ impl<K: Eq + Hash + Exact, V: Exact, E: Exact> Reach<K, V, E> {
     }
 
     /// Hands out the wakers of the calls that the last visit handed out, if it did.
-    pub(crate) fn hand_out(&mut self, parked: &mut Parked, woken: &mut Wakers)
+    pub(crate) fn hand_out(&mut self, parked: &mut Parked, woken: &mut ToWake)
         requires { IsKept K.eq self.old.layers }
         ensures kept { IsKept K.eq self.new.layers }
         ensures out { self.new.woken ≡ None }

@@ -1,5 +1,5 @@
 //! What lies under the lock of a cache, behind that lock.
-ghost use Rattle.std.specs.Prelude.{◌≡◌, ◌≤◌, IfNone, IfOk, IfSome};
+ghost use Rattle.std.specs.Prelude.{◌≡◌, ◌≤◌, ◌<◌, ◌+◌, ◌^◌, ◌++◌, [], length, IfNone, IfOk, IfSome};
 ghost use Rattle.futures.specs.Task.{IsArmed, Keeps};
 ghost use Rattle.moka_hist.specs.State.{World};
 ghost use Rattle.moka_init.specs.FlowPlan.{call_of, tested_in};
@@ -11,18 +11,51 @@ ghost use Rattle.moka_kept.specs.Taking.{Brings};
 
 use crate::brought::Brought;
 use crate::heard::Heard;
-use crate::kept::Kept;
+use crate::leaving::Left;
+use crate::live::Live;
+use crate::locked::Locked;
 use crate::number::Number;
 use crate::parked::Wakers;
 use crate::stop::Stop;
 use futures::task::Context;
 use moka_hist::{Rules, Start};
-use moka_init::Flow;
 use moka_values::Exact;
 use std::alloc::{AllocError, Global};
 use std::collections::LinkedList;
 use std::hash::Hash;
-use std::sync::{Mutex, Wait};
+use std::sync::Wait;
+
+/// The wakers that a hold of the lock has handed out. It has no `Drop`: `wake` alone lets them go,
+/// which no function reaches that has the lock (`Locked`), since it is private to this file, as is
+/// what makes one.
+pub(crate) struct ToWake {
+    wakers: Wakers,
+}
+
+impl ToWake {
+    // None was handed out.
+    fn new(alloc: Global) -> ToWake
+        ensures { result.wakers ≡ [] }
+    {
+        ToWake {
+            wakers: LinkedList::new(alloc),
+        }
+    }
+
+    /// Takes these wakers, after those that it has; there is room for fewer than 2^63.
+    pub(crate) fn take(&mut self, wakers: &mut Wakers)
+        ensures { length self.old.wakers + length wakers.old < 2 ^ 63
+            → self.new.wakers ≡ self.old.wakers ++ wakers.old }
+    {
+        let _ = self.wakers.append(wakers);
+    }
+
+    // Wakes the tasks.
+    fn wake(self) {
+        let ToWake { wakers } = self;
+        drop(wakers);
+    }
+}
 
 /// What a cache keeps, behind its lock. Each call takes the lock once, and has freed it when it
 /// returns. It lends nothing of what lies there, so that no listener is polled under the lock, nor
@@ -32,7 +65,7 @@ pub struct Guarded<K: Eq + Hash, V, E> {
     alloc: Global,
     /// The rules that it was made with.
     pub rules: Rules,
-    kept: Mutex<Kept<K, V, E>>,
+    locked: Locked<K, V, E>,
 }
 
 impl<K: Eq + Hash + Exact, V: Exact, E: Exact> Guarded<K, V, E> {
@@ -41,8 +74,12 @@ impl<K: Eq + Hash + Exact, V: Exact, E: Exact> Guarded<K, V, E> {
     pub fn starting_after(alloc: Global, rules: Rules, last: u64) -> Result<Self, AllocError>
         ensures { IfOk result (λ guarded. guarded.rules ≡ rules) }
     {
-        let kept = Mutex::new(Kept::starting_after(alloc, rules, last)?);
-        Ok(Guarded { alloc, rules, kept })
+        let locked = Locked::starting_after(alloc, rules, last)?;
+        Ok(Guarded {
+            alloc,
+            rules,
+            locked,
+        })
     }
 
     /// Moves the clock on to the moment, where that is later, and gives the next call number out.
@@ -52,9 +89,7 @@ impl<K: Eq + Hash + Exact, V: Exact, E: Exact> Guarded<K, V, E> {
         ensures last { IfSome result (λ number. IsLast K V E K.eq number.call) }
         ensures spent { IfNone result (NumbersSpent K V E K.eq) }
     {
-        let mut guard = self.kept.lock(rt);
-        let kept = &mut *guard;
-        kept.enter(moment)
+        self.locked.enter(rt, moment)
     }
 
     /// Makes steps of the flow in one hold of the lock, at most 32, and none that judges by a
@@ -66,7 +101,7 @@ impl<K: Eq + Hash + Exact, V: Exact, E: Exact> Guarded<K, V, E> {
     pub fn hold<R: Wait>(
         &self,
         rt: &R,
-        flow: &mut Flow<K, V, E>,
+        flow: &mut Live<K, V, E>,
         brought: Brought<V, E>,
         heard: Option<Heard>,
         cx: &mut Context<'_>,
@@ -78,49 +113,24 @@ impl<K: Eq + Hash + Exact, V: Exact, E: Exact> Guarded<K, V, E> {
         ensures armed { result ≡ Stop.Waits → IsArmed cx.new }
         ensures kept { Keeps cx.old cx.new }
     {
-        let mut woken = LinkedList::new(self.alloc);
-        self.make_steps(rt, flow, brought, heard, cx, moment, &mut woken)
-    }
-
-    // Makes those steps in one hold of the lock. The wakers of all that are handed out come to
-    // those in `woken`.
-    fn make_steps<R: Wait>(
-        &self,
-        rt: &R,
-        flow: &mut Flow<K, V, E>,
-        brought: Brought<V, E>,
-        heard: Option<Heard>,
-        cx: &mut Context<'_>,
-        moment: u64,
-        woken: &mut Wakers,
-    ) -> Stop<K, V, E>
-        requires rests { Rests flow.old }
-        ensures stops { StopIs K.eq (Brings (tested_in (call_of flow.old).plan) brought)
-            flow.old result flow.new }
-        ensures armed { result ≡ Stop.Waits → IsArmed cx.new }
-        ensures kept { Keeps cx.old cx.new }
-    {
-        let mut guard = self.kept.lock(rt);
-        let kept = &mut *guard;
-        kept.move_clock(moment);
-        kept.hear(heard, woken);
-        kept.go(flow, brought, cx, woken)
+        let mut woken = ToWake::new(self.alloc);
+        let stop = self
+            .locked
+            .hold(rt, flow, brought, heard, cx, moment, &mut woken);
+        woken.wake();
+        stop
     }
 
     /// Lets the call of the flow leave, with the write that it holds, where the desk allows it.
     /// Once the lock is free it wakes those that wait for it. It takes no memory.
-    pub fn leave<R: Wait>(&self, rt: &R, flow: Flow<K, V, E>) {
-        let mut woken = LinkedList::new(self.alloc);
-        self.let_leave(rt, &flow, &mut woken);
-        drop(flow);
-    }
-
-    // Lets the call of the flow leave, under the lock. The wakers of all that it hands out come to
-    // those in `woken`.
-    fn let_leave<R: Wait>(&self, rt: &R, flow: &Flow<K, V, E>, woken: &mut Wakers) {
-        let mut guard = self.kept.lock(rt);
-        let kept = &mut *guard;
-        kept.leave(flow, woken);
+    pub fn leave<R: Wait>(&self, rt: &R, flow: Live<K, V, E>) -> Left
+        ensures { result.call ≡ flow.call }
+    {
+        let mut woken = ToWake::new(self.alloc);
+        let left = self.locked.leave(rt, flow.flow(), &mut woken);
+        woken.wake();
+        flow.let_go(&left);
+        left
     }
 
     /// Whether the key has a record that is visible, once the clock has moved on to the moment. It
@@ -131,25 +141,19 @@ impl<K: Eq + Hash + Exact, V: Exact, E: Exact> Guarded<K, V, E> {
             Behind K.eq (λ (w : World K V E). (moment ≤ w.desk.clock)
             × (there ≡ sees w key.now))) }
     {
-        let mut guard = self.kept.lock(rt);
-        let kept = &mut *guard;
-        kept.contains_key(key, moment)
+        self.locked.contains_key(rt, key, moment)
     }
 
     /// Moves the clock on to the moment, where that is later, and invalidates all records that were
     /// written before the clock, in one hold of the lock. Records stay stored. It takes no memory.
     pub fn invalidate_all<R: Wait>(&self, rt: &R, moment: u64) {
-        let mut guard = self.kept.lock(rt);
-        let kept = &mut *guard;
-        kept.invalidate_all(moment);
+        self.locked.invalidate_all(rt, moment);
     }
 
     /// How many records the last turn of maintenance counted.
     pub fn entry_count<R: Wait>(&self, rt: &R) -> u64
         ensures { Behind K.eq (λ (w : World K V E). result ≡ w.desk.published) }
     {
-        let mut guard = self.kept.lock(rt);
-        let kept = &mut *guard;
-        kept.entry_count()
+        self.locked.entry_count(rt)
     }
 }

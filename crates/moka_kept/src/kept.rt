@@ -4,9 +4,11 @@ ghost use Rattle.moka_kept.specs.Kept.{IsKept};
 
 use crate::brought::Brought;
 use crate::ground::Reach;
+use crate::guarded::ToWake;
 use crate::heard::Heard;
+use crate::leaving::Left;
 use crate::number::Number;
-use crate::parked::{HandedOut, Parked, Wakers};
+use crate::parked::{HandedOut, Parked};
 use crate::reaching::{goes_on, is_unasked};
 use crate::stop::Stop;
 use futures::task::{Context, Poll};
@@ -75,7 +77,7 @@ impl<K: Eq + Hash + Exact, V: Exact, E: Exact> Kept<K, V, E> {
 
     /// Tells the end of a notice, if one was heard. The wakers of all that it hands out come to
     /// those in `woken`. Where the notice doesn't run nothing is told.
-    pub(crate) fn hear(&mut self, heard: Option<Heard>, woken: &mut Wakers) {
+    pub(crate) fn hear(&mut self, heard: Option<Heard>, woken: &mut ToWake) {
         match heard {
             Some(heard) => self.end_notice(heard, woken),
             None => {}
@@ -83,7 +85,7 @@ impl<K: Eq + Hash + Exact, V: Exact, E: Exact> Kept<K, V, E> {
     }
 
     // Tells the end of a notice.
-    fn end_notice(&mut self, heard: Heard, woken: &mut Wakers) {
+    fn end_notice(&mut self, heard: Heard, woken: &mut ToWake) {
         let handed = heard.tell(&mut self.reach);
         self.hand_out(handed, woken);
     }
@@ -98,7 +100,7 @@ impl<K: Eq + Hash + Exact, V: Exact, E: Exact> Kept<K, V, E> {
         flow: &mut Flow<K, V, E>,
         brought: Brought<V, E>,
         cx: &mut Context<'_>,
-        woken: &mut Wakers,
+        woken: &mut ToWake,
     ) -> Stop<K, V, E>
         requires rests { Rests flow.old }
         ensures stops { StopIs K.eq (Brings (tested_in (call_of flow.old).plan) brought)
@@ -118,7 +120,7 @@ impl<K: Eq + Hash + Exact, V: Exact, E: Exact> Kept<K, V, E> {
         flow: &mut Flow<K, V, E>,
         brought: Brought<V, E>,
         cx: &mut Context<'_>,
-        woken: &mut Wakers,
+        woken: &mut ToWake,
     ) -> Stop<K, V, E>
         requires rests { Rests flow.old }
         ensures stops { StopIs K.eq (Brings (tested_in (call_of flow.old).plan) brought)
@@ -133,7 +135,7 @@ impl<K: Eq + Hash + Exact, V: Exact, E: Exact> Kept<K, V, E> {
             }
             let made = self.one_step(flow, mem::replace(&mut next, Brought::Nothing), woken);
             if !goes_on(&made) {
-                return self.stop_after(made, flow.number(), cx, woken);
+                return self.stop_after(made, flow, cx, woken);
             }
         }
         Stop::Going
@@ -145,7 +147,7 @@ impl<K: Eq + Hash + Exact, V: Exact, E: Exact> Kept<K, V, E> {
         &mut self,
         flow: &mut Flow<K, V, E>,
         brought: Brought<V, E>,
-        woken: &mut Wakers,
+        woken: &mut ToWake,
     ) -> Result<Turn<K, V, E>, AllocError>
         requires rests { Rests flow.old }
         requires untested { brought ≡ Brought.Nothing → tested_in (call_of flow.old).plan ≡ None }
@@ -161,33 +163,33 @@ impl<K: Eq + Hash + Exact, V: Exact, E: Exact> Kept<K, V, E> {
         }
     }
 
-    // How the step of the call of this number stops it. Where it has answered its waker comes to
-    // those in `woken`, if it is still parked.
+    // How the step of the flow's call stops it. Where it has answered its waker comes to those in
+    // `woken`, if it is still parked.
     fn stop_after(
         &mut self,
         made: Result<Turn<K, V, E>, AllocError>,
-        call: u64,
+        flow: &Flow<K, V, E>,
         cx: &mut Context<'_>,
-        woken: &mut Wakers,
+        woken: &mut ToWake,
     ) -> Stop<K, V, E>
         ensures stop { result ≡ stop_after made }
         ensures armed { result ≡ Stop.Waits → IsArmed cx.new }
         ensures kept { Keeps cx.old cx.new }
     {
         match made {
-            Ok(turn) => self.stop_of(turn, call, cx, woken),
+            Ok(turn) => self.stop_of(turn, flow, cx, woken),
             Err(_) => Stop::Memory,
         }
     }
 
-    // How the turn of the call of this number stops it. Where it waits its task is parked; where it
-    // has answered its waker is handed out, if it is still parked.
+    // How the turn of the flow's call stops it. Where it waits its task is parked; where it has
+    // answered its waker is handed out, if it is still parked.
     fn stop_of(
         &mut self,
         turn: Turn<K, V, E>,
-        call: u64,
+        flow: &Flow<K, V, E>,
         cx: &mut Context<'_>,
-        woken: &mut Wakers,
+        woken: &mut ToWake,
     ) -> Stop<K, V, E>
         ensures stop { result ≡ stop_of turn }
         ensures armed { result ≡ Stop.Waits → IsArmed cx.new }
@@ -195,46 +197,54 @@ impl<K: Eq + Hash + Exact, V: Exact, E: Exact> Kept<K, V, E> {
     {
         match turn {
             Turn::Going => Stop::Going,
-            Turn::Wait => self.park(call, cx),
+            Turn::Wait => self.park(flow, cx),
             Turn::Ask(ask) => Stop::Asks(ask),
-            Turn::Answer(answer) => self.answered(answer, call, woken),
+            Turn::Answer(answer) => self.answered(answer, flow, woken),
             Turn::Item(_, _) => Stop::Memory,
         }
     }
 
     // The call has answered: it is parked no longer.
-    fn answered(&mut self, answer: Answer<K, V, E>, call: u64, woken: &mut Wakers) -> Stop<K, V, E>
+    fn answered(
+        &mut self,
+        answer: Answer<K, V, E>,
+        flow: &Flow<K, V, E>,
+        woken: &mut ToWake,
+    ) -> Stop<K, V, E>
         ensures { result ≡ Stop.Answers answer }
     {
-        self.parked.hand_one(call, woken);
+        self.parked.hand_one(flow.number(), woken);
         Stop::Answers(answer)
     }
 
     // Parks the task of the call.
-    fn park(&mut self, call: u64, cx: &mut Context<'_>) -> Stop<K, V, E>
+    fn park(&mut self, flow: &Flow<K, V, E>, cx: &mut Context<'_>) -> Stop<K, V, E>
         ensures stop { result ≡ Stop.Waits }
         ensures armed { IsArmed cx.new }
         ensures kept { Keeps cx.old cx.new }
     {
-        let _: Poll<()> = self.parked.park(call, cx);
+        let _: Poll<()> = self.parked.park(flow, cx);
         Stop::Waits
     }
 
     // Hands out the wakers of the calls that a visit handed out, if it did.
-    fn hand_out(&mut self, handed: Option<HandedOut>, woken: &mut Wakers) {
+    fn hand_out(&mut self, handed: Option<HandedOut>, woken: &mut ToWake) {
         match handed {
             Some(handed) => self.parked.hand_out(handed, woken),
             None => {}
         }
     }
 
-    /// Lets the call of a dropped flow leave, with the write that it holds, where the desk allows
-    /// it. The wakers of all that it hands out come to those in `woken`. It takes no memory.
-    pub(crate) fn leave(&mut self, flow: &Flow<K, V, E>, woken: &mut Wakers) {
+    /// Lets the call of the flow leave, with the write that it holds, where the desk allows it. The
+    /// wakers of all that it hands out come to those in `woken`. It takes no memory.
+    pub(crate) fn leave(&mut self, flow: &Flow<K, V, E>, woken: &mut ToWake) -> Left
+        ensures { result.call ≡ flow.now.call }
+    {
         self.parked.hand_one(flow.number(), woken);
-        let handed = self.reach.leave(flow);
+        let (left, handed) = self.reach.leave(flow);
         self.hand_out(handed, woken);
         self.reach.settle(flow.carries(), false);
+        left
     }
 
     /// Invalidates all records that were written before the clock, once that has moved on to the

@@ -4,6 +4,7 @@ ghost use Rattle.moka_hist.specs.Run.{fresh_call};
 ghost use Rattle.moka_init.specs.FlowPlan.{call_of};
 ghost use Rattle.moka_kept.specs.Rests.{Rests};
 
+use crate::live::Live;
 use moka_hist::{Rules, Start};
 use moka_init::Flow;
 
@@ -25,12 +26,12 @@ impl Number {
     }
 
     /// Makes the fresh flow of a call with this start and number, in a cache of these rules.
-    pub fn begin<K: Drop, V: Drop, E: Drop>(self, start: Start<K, V>, rules: Rules) -> Flow<K, V, E>
+    pub fn begin<K: Drop, V: Drop, E: Drop>(self, start: Start<K, V>, rules: Rules) -> Live<K, V, E>
         ensures fresh { call_of result ≡ fresh_call 1 rules start }
         ensures number { result.call ≡ self.call }
         ensures rests { Rests result }
     {
         let Number { call } = self;
-        Flow::new(start, call, rules, PARTS)
+        Live::of(Flow::new(start, call, rules, PARTS))
     }
 }

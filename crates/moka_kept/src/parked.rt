@@ -1,10 +1,15 @@
 //! The wakers of tasks whose calls wait, in places that are handed out without memory.
-ghost use Rattle.std.specs.Prelude.{◌≡◌, ℕ, cond, false, nat_eq};
+ghost use Rattle.std.specs.Prelude.{◌≡◌, ◌<◌, ◌+◌, ◌^◌, ◌++◌, ◌⊎◌, ℕ, List, Option, Some};
+ghost use Rattle.std.specs.Prelude.{OnOk, cond, false, true, length, nat_eq};
+ghost use Rattle.std.specs.HashMap.{get};
+ghost use Rattle.futures.specs.declared.task.waker.Waker.{Waker};
 ghost use Rattle.futures.specs.Task.{IsArmed, Keeps};
 ghost use Rattle.moka_sync.specs.Waiting.{waits};
 ghost use Rattle.moka_kept.specs.Parked.{is_parked};
 
+use crate::guarded::ToWake;
 use futures::task::{Context, Poll, Source, Waker};
+use moka_init::Flow;
 use moka_room::map_room;
 use moka_sync::CallList;
 use std::alloc::{AllocError, Global};
@@ -48,16 +53,20 @@ impl Parked {
         }
     }
 
-    /// The task's waker goes to the call's place. Without memory for one the task yields.
-    pub(crate) fn park<T>(&mut self, call: u64, cx: &mut Context<'_>) -> Poll<T>
+    /// The task's waker goes to the place of the flow's call. Without memory for one the task asks to
+    /// be polled again.
+    pub(crate) fn park<K, V, E, T>(&mut self, flow: &Flow<K, V, E>, cx: &mut Context<'_>) -> Poll<T>
         ensures pending { result ≡ Poll.Pending }
         ensures armed { IsArmed cx.new }
         ensures kept { Keeps cx.old cx.new }
-        ensures others { (n : ℕ) → (n ≡ call → ⊥) → is_parked self.new n ≡ is_parked self.old n }
+        ensures parked { (is_parked self.new flow.now.call ≡ true) ⊎ (cx.new.is_woken ≡ true) }
+        ensures others { (n : ℕ) → (n ≡ flow.now.call → ⊥)
+            → is_parked self.new n ≡ is_parked self.old n }
     {
-        if self.make_place(call).is_err() {
+        let call = flow.number();
+        let Ok(()) = self.make_place(call) else {
             return cx.yield_now();
-        }
+        };
         match self.places.get_mut(&call) {
             Some(place) => register_in(&self.source, place, cx),
             None => cx.yield_now(),
@@ -66,6 +75,7 @@ impl Parked {
 
     // The call has a place from then on. Room for far more calls than wait is given back.
     fn make_place(&mut self, call: u64) -> Result<(), AllocError>
+        ensures there { OnOk result (is_parked self.new call ≡ true) }
         ensures others { (n : ℕ) → (n ≡ call → ⊥) → is_parked self.new n ≡ is_parked self.old n }
     {
         if self.places.contains_key(&call) {
@@ -79,7 +89,7 @@ impl Parked {
     }
 
     /// Hands the wakers of these calls out, after those that were handed out before.
-    pub(crate) fn hand_out(&mut self, handed: HandedOut, out: &mut Wakers)
+    pub(crate) fn hand_out(&mut self, handed: HandedOut, out: &mut ToWake)
         ensures { (n : ℕ) →
             is_parked self.new n ≡ cond (waits n handed.calls) false (is_parked self.old n) }
     {
@@ -88,7 +98,7 @@ impl Parked {
     }
 
     // Hands the wakers of these calls out, one call after another.
-    fn hand_each(&mut self, calls: &CallList, out: &mut Wakers)
+    fn hand_each(&mut self, calls: &CallList, out: &mut ToWake)
         ensures { (n : ℕ) →
             is_parked self.new n ≡ cond (waits n calls.now) false (is_parked self.old n) }
     {
@@ -98,12 +108,15 @@ impl Parked {
     }
 
     /// Hands the waker of the call out, if it has one.
-    pub(crate) fn hand_one(&mut self, call: u64, out: &mut Wakers)
-        ensures { (n : ℕ) →
+    pub(crate) fn hand_one(&mut self, call: u64, out: &mut ToWake)
+        ensures parked { (n : ℕ) →
             is_parked self.new n ≡ cond (nat_eq call n) false (is_parked self.old n) }
+        ensures woken { (place : List (Option Waker)) → get nat_eq self.old.places call ≡ Some place
+            → length out.old.wakers + length place < 2 ^ 63
+            → out.new.wakers ≡ out.old.wakers ++ place }
     {
         if let Some(mut place) = self.places.remove(&call) {
-            let _ = out.append(&mut place);
+            out.take(&mut place);
         }
     }
 }

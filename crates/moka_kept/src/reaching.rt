@@ -2,7 +2,6 @@
 ghost use Rattle.std.specs.Prelude.{◌≡◌, ◌≤◌, Some, None, Bool, false, true, IfNone, IfOk, IfSome};
 ghost use Rattle.std.specs.Prelude.{OnErr, OnOk, OnSome, is_some, ◌+◌};
 ghost use Rattle.std.specs.Bool.{OnFalse, OnTrue};
-ghost use Rattle.std.specs.Option.{option_map};
 ghost use Rattle.moka_hist.specs.State.{DeskPart};
 ghost use Rattle.moka_hist.specs.Visits.{is_running, makes};
 ghost use Rattle.moka_hist.specs.Telling.{is_asked, told};
@@ -12,8 +11,7 @@ ghost use Rattle.moka_init.specs.FlowPlan.{call_of, next_in, tested_in, Leaves, 
 ghost use Rattle.moka_init.specs.Grounds.{HasBegun, access_at};
 ghost use Rattle.moka_hist.specs.declared.events.Told.{Told};
 ghost use Rattle.moka_hist.specs.declared.visits.Visit.{Visit};
-ghost use Rattle.moka_hist.specs.Conditions.{MayLeave, MayVisit};
-ghost use Rattle.moka_hist.specs.Dropping.{left, owed_by};
+ghost use Rattle.moka_hist.specs.Conditions.{MayVisit};
 ghost use Rattle.moka_needs.specs.Needs.{IsOfCall, need_of};
 ghost use Rattle.moka_needs.specs.Reads.{ReadsItsKind};
 ghost use Rattle.moka_kept.specs.Taking.{Answered, NoAnswer, Tested, end_told, is_of_call};
@@ -25,12 +23,13 @@ ghost use Rattle.moka_kept.specs.Kept.{IsLast, NumbersSpent};
 
 use crate::brought::Brought;
 use crate::ground::Reach;
+use crate::guarded::ToWake;
 use crate::heard::ListenerEnd;
 use crate::in_hand::InHand;
 use crate::number::Number;
-use crate::parked::{HandedOut, Parked, Wakers};
+use crate::parked::{HandedOut, Parked};
 use moka_desk::Desk;
-use moka_hist::{Owed, Rules, Told, Turn, Write};
+use moka_hist::{Rules, Told, Turn};
 use moka_init::{Flow, step};
 use moka_layers::Layers;
 use moka_needs::Need;
@@ -155,7 +154,7 @@ impl<K: Eq + Hash + Exact, V: Exact, E: Exact> Reach<K, V, E> {
         call: u64,
         brought: Brought<V, E>,
         parked: &mut Parked,
-        woken: &mut Wakers,
+        woken: &mut ToWake,
     ) -> Option<bool>
         requires { IsKept K.eq self.old.layers }
         ensures kept { IsKept K.eq self.new.layers }
@@ -177,7 +176,7 @@ impl<K: Eq + Hash + Exact, V: Exact, E: Exact> Reach<K, V, E> {
         call: u64,
         answer: Told<V, E>,
         parked: &mut Parked,
-        woken: &mut Wakers,
+        woken: &mut ToWake,
     ) -> Option<bool>
         requires { IsKept K.eq self.old.layers }
         ensures kept { IsKept K.eq self.new.layers }
@@ -198,7 +197,7 @@ impl<K: Eq + Hash + Exact, V: Exact, E: Exact> Reach<K, V, E> {
         flow: &mut Flow<K, V, E>,
         takes: bool,
         parked: &mut Parked,
-        woken: &mut Wakers,
+        woken: &mut ToWake,
     ) -> Result<Turn<K, V, E>, AllocError>
         requires kept { IsKept K.eq self.old.layers }
         requires rests { Rests flow.old }
@@ -261,38 +260,6 @@ impl<K: Eq + Hash + Exact, V: Exact, E: Exact> Reach<K, V, E> {
     {
         self.layers.call = flow.number();
         step(flow, self)
-    }
-
-    /// Lets the call of a dropped flow leave, with the write that it holds, where the desk allows
-    /// it, and gives those that it hands out. It takes no memory.
-    pub(crate) fn leave(&mut self, flow: &Flow<K, V, E>) -> Option<HandedOut>
-        requires { IsKept K.eq self.old.layers }
-        ensures kept { IsKept K.eq self.new.layers }
-        // What the call holds is left, exactly where the desk allows it.
-        ensures left { OnSome result ((w : DeskPart K V E)
-            → StandsFor K.eq self.old.layers.desk w → StandsFor K.eq self.new.layers.desk
-            (left w flow.now.call (owed_by flow.now.call (call_of flow.now)))) }
-        ensures refused { IfNone result ((w : DeskPart K V E)
-            → StandsFor K.eq self.old.layers.desk w → MayLeave w flow.now.call
-            (option_map (λ o. o.write) (owed_by flow.now.call (call_of flow.now))) → ⊥) }
-    {
-        moka_laws::leaving_keeps_sound::<K, V, E>();
-        let call = flow.number();
-        let held = flow.held();
-        match self.layers.desk.may_leave(call, write_of(&held)) {
-            true => Some(HandedOut::of(self.layers.desk.leave(call, held))),
-            false => None,
-        }
-    }
-}
-
-// The write that is handed in, if one is.
-fn write_of(held: &Option<Owed>) -> Option<Write>
-    ensures { result ≡ option_map (λ o. o.write) held.now }
-{
-    match held {
-        Some(owed) => Some(owed.write),
-        None => None,
     }
 }
 
@@ -389,13 +356,6 @@ fn needs_answer<K>(need: &Need<K>) -> bool
         Need::TakeTold => true,
         _ => false,
     }
-}
-
-/// Whether the flow's next visit takes the answer to its own ask, which is open.
-pub fn is_asking<K, V, E>(flow: &Flow<K, V, E>) -> bool
-    ensures { result ≡ is_taking (access_at flow.now) }
-{
-    flow.takes_told()
 }
 
 // Whether the flow's next visit judges a record by its call's replace test.

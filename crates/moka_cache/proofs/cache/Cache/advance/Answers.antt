@@ -1,6 +1,6 @@
 -- A state whose call was begun goes on as its flow does.
 use Rattle.moka_cache.specs.Asked.{Accords}
-use Rattle.moka_cache.proofs.Advancing.{answers_at, came_at, failed_at, named_at, names_at, rests_at, unasked_at, unspent}
+use Rattle.moka_cache.proofs.Advancing.{answers_at, came_at, failed_at, named_at, names_at, over_at, rests_at, unasked_at, unspent}
 use Rattle.moka_cache.proofs.Staying.{asked_still}
 use Rattle.moka_cache.proofs.cache.Cache.advance.Goals as goal
 
@@ -11,6 +11,11 @@ pub go_on-requires-clause-asks : goal.go_on-requires-clause-asks
 go_on-requires-clause-asks g c = c.requires.asks
 
 -- ---- it has answered
+
+pub end-requires : goal.end-requires
+end-requires g c =
+    over_at g.K.PartialEq.eq (Accords (g.Q.Asked.gives c.args.asked.now) (g.Q.Asked.tests c.args.asked.now)) c.in-Running.flow c.go_on.new.flow c.in-Ready-Ok.field-0 c.in-Ready-Ok.answer
+    c.in-Ready-Ok.field-0-is c.in-Ready-Ok.ensures.polled
 
 pub returns-in-Ready-Ok-clause-answers : goal.returns-in-Ready-Ok-clause-answers
 returns-in-Ready-Ok-clause-answers g c =

@@ -33,7 +33,7 @@ handed n call xs was now later before then =
     by false false = refl
 
 pub loop-call-preserved : goal.loop-call-preserved
-loop-call-preserved c = λ n. handed n c.in-Some.call c.loop-call.yielded _ _ _ (c.loop-call.invariant n) (c.hand_one.ensures n)
+loop-call-preserved c = λ n. handed n c.in-Some.call c.loop-call.yielded _ _ _ (c.loop-call.invariant n) (c.hand_one.ensures.parked n)
 
 pub returns : goal.returns
 returns c = λ n.

@@ -1,0 +1,122 @@
+//! The lock of a cache. What takes it can neither make what those that are to be woken lie in, nor
+//! let it go.
+ghost use Rattle.std.specs.Prelude.{◌≡◌, ◌≤◌, IfNone, IfOk, IfSome};
+ghost use Rattle.futures.specs.Task.{IsArmed, Keeps};
+ghost use Rattle.moka_hist.specs.State.{World};
+ghost use Rattle.moka_init.specs.FlowPlan.{call_of, tested_in};
+ghost use Rattle.moka_kept.specs.Counts.{Behind, sees};
+ghost use Rattle.moka_kept.specs.Kept.{IsLast, NumbersSpent};
+ghost use Rattle.moka_kept.specs.Rests.{Rests};
+ghost use Rattle.moka_kept.specs.Stops.{StopIs};
+ghost use Rattle.moka_kept.specs.Taking.{Brings};
+
+use crate::brought::Brought;
+use crate::guarded::ToWake;
+use crate::heard::Heard;
+use crate::kept::Kept;
+use crate::leaving::Left;
+use crate::live::Live;
+use crate::number::Number;
+use crate::stop::Stop;
+use futures::task::Context;
+use moka_hist::Rules;
+use moka_init::Flow;
+use moka_values::Exact;
+use std::alloc::{AllocError, Global};
+use std::hash::Hash;
+use std::sync::{Mutex, Wait};
+
+/// What lies under the lock, with that lock. Each call takes it once, and has freed it when it
+/// returns.
+#[derive(Drop)]
+pub(crate) struct Locked<K: Eq + Hash, V, E> {
+    kept: Mutex<Kept<K, V, E>>,
+}
+
+impl<K: Eq + Hash + Exact, V: Exact, E: Exact> Locked<K, V, E> {
+    /// Makes what an empty cache keeps, as `Kept::starting_after` does.
+    pub(crate) fn starting_after(
+        alloc: Global,
+        rules: Rules,
+        last: u64,
+    ) -> Result<Self, AllocError> {
+        let kept = Mutex::new(Kept::starting_after(alloc, rules, last)?);
+        Ok(Locked { kept })
+    }
+
+    /// Gives the next call number out, as `Kept::enter` does.
+    pub(crate) fn enter<R: Wait>(&self, rt: &R, moment: u64) -> Option<Number>
+        ensures last { IfSome result (λ number. IsLast K V E K.eq number.call) }
+        ensures spent { IfNone result (NumbersSpent K V E K.eq) }
+    {
+        let mut guard = self.kept.lock(rt);
+        let kept = &mut *guard;
+        kept.enter(moment)
+    }
+
+    /// Makes steps of the flow in one hold, as `Kept::go` does, once the clock was moved on and the
+    /// end of a notice told. The wakers of all that are handed out come to those in `woken`.
+    pub(crate) fn hold<R: Wait>(
+        &self,
+        rt: &R,
+        flow: &mut Live<K, V, E>,
+        brought: Brought<V, E>,
+        heard: Option<Heard>,
+        cx: &mut Context<'_>,
+        moment: u64,
+        woken: &mut ToWake,
+    ) -> Stop<K, V, E>
+        requires rests { Rests flow.old }
+        ensures stops { StopIs K.eq (Brings (tested_in (call_of flow.old).plan) brought)
+            flow.old result flow.new }
+        ensures armed { result ≡ Stop.Waits → IsArmed cx.new }
+        ensures kept { Keeps cx.old cx.new }
+    {
+        let mut guard = self.kept.lock(rt);
+        let kept = &mut *guard;
+        kept.move_clock(moment);
+        kept.hear(heard, woken);
+        flow.go(kept, brought, cx, woken)
+    }
+
+    /// Lets the call of the flow leave. The wakers of all that it hands out come to those in `woken`.
+    pub(crate) fn leave<R: Wait>(&self, rt: &R, flow: &Flow<K, V, E>, woken: &mut ToWake) -> Left
+        ensures { result.call ≡ flow.now.call }
+    {
+        let mut guard = self.kept.lock(rt);
+        let kept = &mut *guard;
+        kept.leave(flow, woken)
+    }
+
+    /// Whether the key has a record that is visible, as `Kept::contains_key` tells.
+    pub(crate) fn contains_key<R: Wait>(
+        &self,
+        rt: &R,
+        key: &K,
+        moment: u64,
+    ) -> Result<bool, AllocError>
+        ensures { IfOk result (λ there.
+            Behind K.eq (λ (w : World K V E). (moment ≤ w.desk.clock)
+            × (there ≡ sees w key.now))) }
+    {
+        let mut guard = self.kept.lock(rt);
+        let kept = &mut *guard;
+        kept.contains_key(key, moment)
+    }
+
+    /// Invalidates all records, as `Kept::invalidate_all` does.
+    pub(crate) fn invalidate_all<R: Wait>(&self, rt: &R, moment: u64) {
+        let mut guard = self.kept.lock(rt);
+        let kept = &mut *guard;
+        kept.invalidate_all(moment);
+    }
+
+    /// How many records the last turn of maintenance counted.
+    pub(crate) fn entry_count<R: Wait>(&self, rt: &R) -> u64
+        ensures { Behind K.eq (λ (w : World K V E). result ≡ w.desk.published) }
+    {
+        let mut guard = self.kept.lock(rt);
+        let kept = &mut *guard;
+        kept.entry_count()
+    }
+}
