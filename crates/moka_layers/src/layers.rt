@@ -45,6 +45,7 @@ impl<
 
     // Makes a step of the operation that was begun. It stays begun where it is undecided, or memory
     // was wanting.
+    #[inline(always)]
     fn go_on(&mut self, mut call: C) -> Result<Got<K, V, E>, AllocError>
         requires fits { T.fits self.old.table call }
         requires within { T.left self.old.table call ≤ most_on T.Table self.old.table }
