@@ -1,0 +1,6 @@
+-- The first arrays of a table without a capacity are as long as they are at least.
+use Rattle.std.proofs.Common.{refl, ap, max}
+use Rattle.moka_walk_cases.proofs.tests.play_segments.Goals as goal
+
+pub play-requires : goal.play-requires
+play-requires c = c.in_ok-table.ensures.empty (ap (λ n. max 128 n) (c.in_ok-table.ensures.first.none refl))
