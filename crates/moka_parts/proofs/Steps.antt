@@ -59,16 +59,16 @@ module _ {K V S : Type 0} (eq : K → K → Bool) (part : S → K → ℕ) where
         legal = kept.legal;
       }
 
-  -- a book that was just opened
-  pub opened_kept : (s : S) → IsKept {V = V} eq part (replicate 65 (0, true)) (Opened s ∷ [])
-  opened_kept s =
-      let l = length-replicate {A = Cell} 65 (0, true) in
+  -- a book of so many words that was just opened
+  pub opened_kept : (s : S) (words : ℕ) → 64 < words → IsKept {V = V} eq part (replicate words (0, true)) (Opened s ∷ [])
+  opened_kept s words above =
+      let l = length-replicate {A = Cell} words (0, true) in
       record {
         hasher = s;
         opened = refl;
-        many = omega arith;
-        door = ap (λ (c : Cell). c.1) (get_or-replicate {A = Cell} 65 64 (0, true) (0, false) (omega arith));
-        counts = λ n below. get_or-replicate {A = Cell} 65 n (0, true) (0, false) (omega arith);
+        many = omega (arith, l, above);
+        door = ap (λ (c : Cell). c.1) (get_or-replicate {A = Cell} words 64 (0, true) (0, false) above);
+        counts = λ n below. get_or-replicate {A = Cell} words n (0, true) (0, false) (omega (arith, above, below));
         spent = tt;
         legal = nothing_is_legal eq;
       }

@@ -1,9 +1,8 @@
 -- What a taking out answers.
-use Rattle.std.proofs.Common.{◌≡◌, Bool, true, false, List, Option, None, Some, MatchOption, refl, sym, subst, ◌∙◌}
+use Rattle.std.proofs.Common.{◌≡◌, Bool, true, false, List, Option, None, Some, IfSome, MatchOption, refl, sym, subst, ◌∙◌}
 use Rattle.std.proofs.lemmas.Bool.{true≢false, false≢true}
 use Rattle.std.specs.Prelude.{⊤, Result, Ok, Err, IfOk, OnOk, OnErr, IsErr}
 use Rattle.std.specs.Option.{option_map}
-use Rattle.std.proofs.lemmas.Result.{IfOk-weaker}
 use denote.Ref.{Bor}
 use denote.Param.Members.{Once}
 use Rattle.moka_parts.specs.declared.note.Note.{Note}
@@ -28,16 +27,13 @@ module _ {P : Type 0} where
       subst (λ (o : Option P). MatchOption o N X) (sym same) (by o h e)
 
 -- what a taking out answers, as the caller's seat shows it
-pub taken_seen : {F K V S E : Type 0} (g : Once F (Bor K × (Bor V × Unit {0})) Bool) (condition : F) (key : K) (found : Option (K × V)) (own own' : Hand K V) (old new : List (Note K V S))
-    (r : Result (Option (K × V)) E) → IfOk r (λ taken. TakesOut g condition key found taken own own' old new)
-    → IfOk r (λ taken. MatchOption taken (Stays g condition found × (own' ≡ own)) (λ p. Adds key None (Some p) (changes_in old, own) (changes_in new, own') × Judged g condition p true))
-taken_seen {F} {K} {V} {S} {E} g condition key found own own' old new r h =
-    IfOk-weaker r (λ taken. TakesOut g condition key found taken own own' old new) _ by h
-  where
-    by : (taken : Option (K × V)) → TakesOut g condition key found taken own own' old new
-        → MatchOption taken (Stays g condition found × (own' ≡ own)) (λ p. Adds key None (Some p) (changes_in old, own) (changes_in new, own') × Judged g condition p true)
-    by None h = h
-    by (Some p) h = (adds key None (Some p) own own' old new h.0, h.1)
+pub taken_seen : {F K V S E : Type 0} (g : Once F (Bor K × (Bor V × Unit {0})) Bool) (condition : F) (so : V → Type 0) (key : K) (found : Option (K × V)) (own own' : Hand K V) (old new : List (Note K V S))
+    (r : Result (Option (K × V)) E) → IfOk r (λ taken. TakesOut g condition key found taken own own' old new) → IfOk r (λ taken. IfSome taken (λ p. so p.1))
+    → IfOk r (λ taken. MatchOption taken ((own' ≡ own) × ((stood : Option (K × V)) × (stood ≡ found) × Stays g condition stood))
+    (λ p. Adds key None (Some p) (changes_in old, own) (changes_in new, own') × Judged g condition p true × so p.1))
+taken_seen g condition so key found own own' old new (Ok None) h f = (h.1, (found, refl, h.0))
+taken_seen g condition so key found own own' old new (Ok (Some p)) h f = (adds key None (Some p) own own' old new h.0, h.1, f)
+taken_seen g condition so key found own own' old new (Err e) h f = tt
 
 -- a pair without a value is none
 pub no_value : {K V : Type 0} (o : Option (K × V)) → option_map (λ p. p.1) o ≡ None → o ≡ None
@@ -55,7 +51,9 @@ absent_put (Err x) (Ok there) Ends X now ok err ends none = absurd (false≢true
 absent_put (Err x) (Err y) Ends X now ok err ends none = tt
 
 -- an answer of `put_if_absent`, as the caller's seat shows it
-pub put_seen : {V E : Type 0} (r : Result (Option V) E) (A B : Type 0) (X : V → Type 0) → (A → B) → IfOk r (λ there. MatchOption there A X) → IfOk r (λ there. MatchOption there B X)
-put_seen (Ok None) A B X to h = to h
-put_seen (Ok (Some v)) A B X to h = h
-put_seen (Err e) A B X to h = tt
+pub put_seen : {K V E : Type 0} (r : Result (Option V) E) (A B N : Type 0) (so : V → Type 0) (now : Option (K × V)) → (A → B)
+    → IfOk r (λ there. MatchOption there A (λ v. (option_map (λ p. p.1) now ≡ Some v) × N)) → IfOk r (λ there. IfSome there so)
+    → IfOk r (λ there. MatchOption there B (λ v. so v × N × ((found : Option (K × V)) × (found ≡ now) × (option_map (λ p. p.1) found ≡ Some v))))
+put_seen (Ok None) A B N so now to h f = to h
+put_seen (Ok (Some v)) A B N so now to h f = (f, h.1, (now, refl, h.0))
+put_seen (Err e) A B N so now to h f = tt

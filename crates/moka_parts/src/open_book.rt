@@ -51,7 +51,15 @@ impl<K: Eq + Hash, V, S: BuildHasher> OpenBook<K, V, S> {
     pub fn new(hasher: S) -> Self
         ensures { result.1 ≡ hasher }
     {
-        let (seen, pens) = Seen::open_row::<S, Opens>(&hasher, Start::alone(), WORDS);
+        Self::of(hasher, WORDS)
+    }
+
+    // Opens a book of so many words. Of a number that has a name no list of them is written out.
+    fn of(hasher: S, words: usize) -> Self
+        requires { words ≡ 65 }
+        ensures { result.1 ≡ hasher }
+    {
+        let (seen, pens) = Seen::open_row::<S, Opens>(&hasher, Start::alone(), words);
         OpenBook { hasher, seen, pens }
     }
 }

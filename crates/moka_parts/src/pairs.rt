@@ -1,5 +1,5 @@
 //! The pairs of a hash map, found and changed with their keys.
-ghost use Rattle.std.specs.Prelude.{◌≡◌, ◌<◌, ◌≤◌, cond, is_some, Option, None, Some, IfOk, OnOk, IfErr, OnErr};
+ghost use Rattle.std.specs.Prelude.{◌≡◌, ◌<◌, ◌≤◌, [], ◌∷◌, ◌++◌, cond, is_some, Option, None, Some, IfOk, OnOk, IfErr, OnErr};
 ghost use denote.Ref.{Bor};
 ghost use Rattle.std.specs.List.{IsDistinct};
 ghost use Rattle.std.specs.Option.{option_map};
@@ -228,7 +228,15 @@ pub(crate) fn keys<K: Eq + Hash + Exact + Drop, V, S: BuildHasher>(
 {
     let mut keys = Vec::with_capacity(alloc, map.len())?;
     for key in map.keys() {
-        keys.push(key.clone()?)?;
+        add_copy(&mut keys, key)?;
     }
     Ok(keys)
+}
+
+/// Adds a copy of the key.
+fn add_copy<K: Exact + Drop>(keys: &mut Vec<K>, key: &K) -> Result<(), AllocError>
+    ensures { OnOk result (keys.new.items ≡ keys.old.items ++ key.now ∷ []) }
+{
+    keys.push(key.clone()?)?;
+    Ok(())
 }

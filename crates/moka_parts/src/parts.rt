@@ -7,7 +7,6 @@ ghost use Rattle.moka_parts.specs.Calls.{Judged, ShownSome, Stays};
 ghost use Rattle.moka_parts.specs.Hashing.{part_in};
 
 use crate::bare::Bare;
-use crate::held::Held;
 use crate::open_book::PARTS;
 use crate::placing::part_of;
 use crate::{Anything, Fact, SharedTable};
@@ -19,6 +18,9 @@ use std::sync::{Mutex, Wait};
 
 /// A table of 64 maps, each under a lock of its own. What is stored owes the fact F. Contracts see
 /// its hash builder.
+///
+/// What leaves a part comes beside its answer, and is dropped once the lock is free, which is held
+/// no longer than the line that takes it.
 #[derive(Drop)]
 pub struct Parts<K: Eq + Hash, V, S: BuildHasher, F: Fact<K, V> = Anything> {
     hasher: S,
@@ -95,33 +97,8 @@ impl<K: Eq + Hash, V, S: BuildHasher, F: Fact<K, V>> Parts<K, V, S, F> {
             (λ before. IfSome before (λ p. F.holds key p.1))) }
     {
         let number = self.part_of(&key);
-        let (answer, _left) = self.replace_in(rt, number, key, value, with);
+        let (answer, _left) = self.parts[number].lock(rt).put(key, value, with);
         answer
-    }
-
-    // Takes the lock of the part, and puts the pair. What leaves the part comes beside the answer,
-    // so that it is dropped once the lock is free.
-    fn replace_in<R: Wait, T, W: FnOnce(Option<(&K, &V)>) -> T>(
-        &self,
-        rt: &R,
-        number: usize,
-        key: K,
-        value: V,
-        with: W,
-    ) -> (Result<T, AllocError>, Option<Held<K, V>>)
-    where
-        K: Drop,
-        V: Drop,
-        requires part { number < 64 }
-        requires fact { F.holds key value }
-        requires callable { (shown : Option (Bor K × Bor V))
-            → IfSome shown (λ p. F.holds key p.1.now) → W.pre with shown }
-        ensures shown { IfOk result.0 (ShownSome W.FnOnce with
-            (λ before. IfSome before (λ p. F.holds key p.1))) }
-    {
-        let mut guard = self.parts[number].lock(rt);
-        let part = &mut *guard;
-        part.put(key, value, with)
     }
 
     /// Puts the pair where none stands at the key: answers None, or a copy of the value that stands
@@ -134,29 +111,8 @@ impl<K: Eq + Hash, V, S: BuildHasher, F: Fact<K, V>> Parts<K, V, S, F> {
         ensures fact { IfOk result (λ there. IfSome there (F.holds key)) }
     {
         let number = self.part_of(&key);
-        let (answer, _left) = self.put_in(rt, number, key, value);
+        let (answer, _left) = self.parts[number].lock(rt).put_if_absent(key, value);
         answer
-    }
-
-    // Takes the lock of the part, and puts the pair where none stands at the key. A pair that isn't
-    // put comes beside the answer, so that it is dropped once the lock is free.
-    fn put_in<R: Wait>(
-        &self,
-        rt: &R,
-        number: usize,
-        key: K,
-        value: V,
-    ) -> (Result<Option<V>, AllocError>, Option<Held<K, V>>)
-    where
-        K: Drop,
-        V: Exact + Drop,
-        requires part { number < 64 }
-        requires fact { F.holds key value }
-        ensures fact { IfOk result.0 (λ there. IfSome there (F.holds key)) }
-    {
-        let mut guard = self.parts[number].lock(rt);
-        let part = &mut *guard;
-        part.put_if_absent(key, value)
     }
 
     /// Copies of the keys of a part, each once, as they stand while its lock is held. It is an
@@ -193,29 +149,8 @@ impl<K: Eq + Hash, V, S: BuildHasher, F: Fact<K, V>> Parts<K, V, S, F> {
         ensures fact { IfSome result (λ p. F.holds key.now p.1) }
     {
         let number = self.part_of(key);
-        let (answer, _left) = self.take_in(rt, number, key, condition);
+        let (answer, _left) = self.parts[number].lock(rt).take_out_if(key, condition);
         answer
-    }
-
-    // Takes the lock of the part, and takes the pair out. A key that is left over comes beside the
-    // answer, so that it is dropped once the lock is free.
-    fn take_in<R: Wait, C: FnOnce(&K, &V) -> bool>(
-        &self,
-        rt: &R,
-        number: usize,
-        key: &K,
-        condition: C,
-    ) -> (Option<(K, V)>, Option<K>)
-        requires part { number < 64 }
-        requires callable { (k : Bor K) (v : Bor V) → F.holds key.now v.now
-            → C.pre condition k v }
-        ensures none { IfNone result.0 ((found : Option (K × V)) × Stays C.FnOnce condition found) }
-        ensures out { IfSome result.0 (λ p. Judged C.FnOnce condition p true) }
-        ensures fact { IfSome result.0 (λ p. F.holds key.now p.1) }
-    {
-        let mut guard = self.parts[number].lock(rt);
-        let part = &mut *guard;
-        part.take_out_if(key, condition)
     }
 
     /// How many pairs there are. The parts are counted one after the other, so it is exact only

@@ -2,33 +2,21 @@
 ghost use Rattle.std.specs.Prelude.{ℕ};
 
 use crate::calls::{Call, Row, answer, right};
-use crate::tables::{Case, on_named, on_named_of_one_part, on_parts, on_parts_of_one_part};
+use crate::tables::{Case, on_both, on_both_of_one_part};
 use moka_parts::SharedTable;
 use std::alloc::{AllocError, Global};
 use std::sync::Wait;
 use std::test::*;
 
 #[test]
-fn one_seat_of_a_table_without_a_name(rt: HostRuntime) -> Result<(), Fail> {
-    assert!(rt; on_parts(&rt, rt.alloc(), Case::OneSeat)?);
+fn one_seat_of_each_table(rt: HostRuntime) -> Result<(), Fail> {
+    assert!(rt; on_both(&rt, rt.alloc(), Case::OneSeat)?);
     Ok(())
 }
 
 #[test]
 fn one_seat_where_all_keys_are_of_one_part(rt: HostRuntime) -> Result<(), Fail> {
-    assert!(rt; on_parts_of_one_part(&rt, rt.alloc())?);
-    Ok(())
-}
-
-#[test]
-fn one_seat_of_a_named_table(rt: HostRuntime) -> Result<(), Fail> {
-    assert!(rt; on_named(&rt, rt.alloc(), Case::OneSeat)?);
-    Ok(())
-}
-
-#[test]
-fn one_seat_of_a_named_table_of_one_part(rt: HostRuntime) -> Result<(), Fail> {
-    assert!(rt; on_named_of_one_part(&rt, rt.alloc())?);
+    assert!(rt; on_both_of_one_part(&rt, rt.alloc())?);
     Ok(())
 }
 

@@ -46,6 +46,15 @@ impl Case {
     }
 }
 
+/// Tries the case on a table of each kind.
+pub(crate) fn on_both<R: Threads + Wait + Sync>(
+    rt: &R,
+    alloc: Global,
+    case: Case,
+) -> Result<bool, AllocError> {
+    Ok(on_parts(rt, alloc, case)? && on_named(rt, alloc, case)?)
+}
+
 /// Tries the case on a table without a name.
 pub(crate) fn on_parts<R: Threads + Wait + Sync>(
     rt: &R,
@@ -56,8 +65,13 @@ pub(crate) fn on_parts<R: Threads + Wait + Sync>(
     case.holds(rt, alloc, &table)
 }
 
-/// Tries one caller on a table without a name, all of whose keys are of one part.
-pub(crate) fn on_parts_of_one_part<R: Wait>(rt: &R, alloc: Global) -> Result<bool, AllocError> {
+/// Tries one caller on a table of each kind, all of whose keys are of one part.
+pub(crate) fn on_both_of_one_part<R: Wait>(rt: &R, alloc: Global) -> Result<bool, AllocError> {
+    let named = on_book_of_one_part::<Brand, _>(rt, alloc, OpenBook::new(BuildZero {}))?;
+    Ok(named && on_parts_of_one_part(rt, alloc)?)
+}
+
+fn on_parts_of_one_part<R: Wait>(rt: &R, alloc: Global) -> Result<bool, AllocError> {
     let table: Parts<u64, u64, BuildZero, Anything> = Parts::new(alloc, BuildZero {})?;
     one_seat(rt, alloc, &table)
 }
@@ -81,11 +95,6 @@ fn on_book<J: Naming + Send + Sync, R: Threads + Wait + Sync>(
 {
     let table: NamedParts<u64, u64, Fold, J, Anything> = NamedParts::new(alloc, book)?;
     case.holds(rt, alloc, &table)
-}
-
-/// Tries one caller on a table whose history has a name, all of whose keys are of one part.
-pub(crate) fn on_named_of_one_part<R: Wait>(rt: &R, alloc: Global) -> Result<bool, AllocError> {
-    on_book_of_one_part::<Brand, _>(rt, alloc, OpenBook::new(BuildZero {}))
 }
 
 fn on_book_of_one_part<J: Naming, R: Wait>(

@@ -2,7 +2,8 @@
 ghost use Rattle.std.specs.Prelude.{ℕ};
 
 use crate::calls::{Call, answer, listed, right};
-use crate::tables::{Case, on_named, on_parts};
+use crate::tables::{Case, on_both};
+use crate::totals::total;
 use moka_parts::SharedTable;
 use std::alloc::{AllocError, Global};
 use std::sync::Wait;
@@ -18,31 +19,31 @@ const KEYS: u64 = 512;
 const SHARE: u64 = 8;
 
 #[test]
-fn threads_share_a_table_without_a_name(rt: HostRuntime) -> Result<(), Fail> {
-    assert!(rt; on_parts(&rt, rt.alloc(), Case::Share)?);
+fn threads_share_each_table(rt: HostRuntime) -> Result<(), Fail> {
+    assert!(rt; on_both(&rt, rt.alloc(), Case::Share)?);
     Ok(())
 }
 
 #[test]
-fn seats_of_threads_meet_at_a_table_without_a_name(rt: HostRuntime) -> Result<(), Fail> {
-    assert!(rt; on_parts(&rt, rt.alloc(), Case::Meet)?);
+fn seats_of_threads_meet_at_each_table(rt: HostRuntime) -> Result<(), Fail> {
+    assert!(rt; on_both(&rt, rt.alloc(), Case::Meet)?);
     Ok(())
 }
 
-#[test]
-fn seats_of_threads_meet_at_a_named_table(rt: HostRuntime) -> Result<(), Fail> {
-    assert!(rt; on_named(&rt, rt.alloc(), Case::Meet)?);
-    Ok(())
-}
-
-#[test]
-fn threads_share_a_named_table(rt: HostRuntime) -> Result<(), Fail> {
-    assert!(rt; on_named(&rt, rt.alloc(), Case::Share)?);
-    Ok(())
+/// What each of the threads does at once.
+#[derive(Clone, Copy)]
+enum Deed {
+    /// It puts, finds and takes out keys of its own, and counts the calls that answer what they should.
+    OwnKeys,
+    /// It puts the keys of all where these are absent, and counts those that it has put.
+    SameKeys,
+    /// It puts 1 at one key, many times, and sums the former values.
+    OneKey,
 }
 
 /// Each thread puts, finds and takes out keys of its own; then all put the same keys where these
-/// are absent; then all put at one key.
+/// are absent; then all put 1 at one key, where each value that was put is the former one of one
+/// other put, but for the last: so none is lost.
 pub(crate) fn all_together<
     Q: Drop + Send,
     T: SharedTable<u64, u64, Seat = Q> + Sync,
@@ -50,94 +51,77 @@ pub(crate) fn all_together<
 >(rt: &R, alloc: Global, table: &T) -> Result<bool, AllocError>
     requires { (k v : ℕ) → T.holds k v }
 {
-    let found = thread::map_indices(
+    let own = all_do(rt, alloc, table, Deed::OwnKeys)?;
+    let none_left = table.len(rt) == 0;
+    let same = all_do(rt, alloc, table, Deed::SameKeys)?;
+    let all_left = table.len(rt) == KEYS;
+    let formers = all_do(rt, alloc, table, Deed::OneKey)?;
+    let last = answer(rt, table, &mut table.seat(), 0, Call::Look)?.unwrap_or(0);
+    let one = formers.wrapping_add(last);
+    let right = own == 3 * KEYS * THREADS as u64 && same == KEYS && one == KEYS * THREADS as u64;
+    Ok(right && none_left && all_left)
+}
+
+/// The sum of what the threads count.
+fn all_do<Q: Drop + Send, T: SharedTable<u64, u64, Seat = Q> + Sync, R: Threads + Wait + Sync>(
+    rt: &R,
+    alloc: Global,
+    table: &T,
+    deed: Deed,
+) -> Result<u64, AllocError>
+    requires { (k v : ℕ) → T.holds k v }
+{
+    total(
         rt,
         alloc,
         THREADS,
-        &|number| own_keys(rt, table, number as u64).unwrap_or(0),
-    )?;
-    let own = found.iter().all(|found| *found == 3 * KEYS) && table.len(rt) == 0;
-    let put = thread::map_indices(rt, alloc, THREADS, &|_| same_keys(rt, table).unwrap_or(0))?;
-    let same = total(put.as_slice()) == KEYS && table.len(rt) == KEYS;
-    Ok(own && same && one_key(rt, alloc, table)?)
+        &|thread| done(rt, table, deed, thread as u64).unwrap_or(0),
+    )
 }
 
-/// How many of the keys of a thread's own were absent before they were put, found then, and taken
-/// out.
-fn own_keys<Q: Drop, T: SharedTable<u64, u64, Seat = Q>, R: Wait>(
+/// What one of the threads counts, with a seat of its own.
+fn done<Q: Drop, T: SharedTable<u64, u64, Seat = Q>, R: Wait>(
     rt: &R,
     table: &T,
-    number: u64,
+    deed: Deed,
+    thread: u64,
 ) -> Result<u64, AllocError>
     requires { (k v : ℕ) → T.holds k v }
 {
     let mut seat = table.seat();
     let mut count = 0u64;
     for place in 0..KEYS {
-        let key = number.wrapping_mul(KEYS).wrapping_add(place);
-        let rows = [
-            (key, Call::Put(place), None),
-            (key, Call::Look, Some(place)),
-            (key, Call::TakeOut(place), Some(place)),
-        ];
-        count = count.wrapping_add(right(rt, table, &mut seat, &rows)?);
+        count = count.wrapping_add(counted(rt, table, &mut seat, deed, thread, place)?);
     }
     Ok(count)
 }
 
-/// How many of the keys this thread found absent, and put.
-fn same_keys<Q: Drop, T: SharedTable<u64, u64, Seat = Q>, R: Wait>(
+/// What it counts of one of the keys.
+fn counted<Q: Drop, T: SharedTable<u64, u64, Seat = Q>, R: Wait>(
     rt: &R,
     table: &T,
+    seat: &mut Q,
+    deed: Deed,
+    thread: u64,
+    place: u64,
 ) -> Result<u64, AllocError>
     requires { (k v : ℕ) → T.holds k v }
 {
-    let mut seat = table.seat();
-    let mut count = 0u64;
-    for key in 0..KEYS {
-        let there = answer(rt, table, &mut seat, key, Call::PutIfAbsent(0))?;
-        count = count.wrapping_add(u64::from(there.is_none()));
+    let own = thread.wrapping_mul(KEYS).wrapping_add(place);
+    match deed {
+        Deed::OwnKeys => right(
+            rt,
+            table,
+            seat,
+            &[
+                (own, Call::Put(place), None),
+                (own, Call::Look, Some(place)),
+                (own, Call::TakeOut(place), Some(place)),
+            ],
+        ),
+        Deed::SameKeys => right(rt, table, seat, &[(place, Call::PutIfAbsent(0), None)]),
+        Deed::OneKey => Ok(answer(rt, table, seat, 0, Call::Put(1))?.unwrap_or(0)),
     }
-    Ok(count)
-}
-
-/// All threads put 1 at one key, many times. Each value that was put is the former one of one other
-/// put, but for the last: so none is lost.
-fn one_key<Q: Drop + Send, T: SharedTable<u64, u64, Seat = Q> + Sync, R: Threads + Wait + Sync>(
-    rt: &R,
-    alloc: Global,
-    table: &T,
-) -> Result<bool, AllocError>
-    requires { (k v : ℕ) → T.holds k v }
-{
-    let formers = thread::map_indices(rt, alloc, THREADS, &|_| former(rt, table).unwrap_or(0))?;
-    let last = answer(rt, table, &mut table.seat(), 0, Call::Look)?.unwrap_or(0);
-    let all = total(formers.as_slice()).wrapping_add(last);
-    Ok(all == KEYS.wrapping_mul(THREADS as u64))
-}
-
-/// The sum of the values that stood at the key before each of this thread's puts.
-fn former<Q: Drop, T: SharedTable<u64, u64, Seat = Q>, R: Wait>(
-    rt: &R,
-    table: &T,
-) -> Result<u64, AllocError>
-    requires { (k v : ℕ) → T.holds k v }
-{
-    let mut seat = table.seat();
-    let mut sum = 0u64;
-    for _ in 0..KEYS {
-        let before = answer(rt, table, &mut seat, 0, Call::Put(1))?;
-        sum = sum.wrapping_add(before.unwrap_or(0));
-    }
-    Ok(sum)
-}
-
-fn total(numbers: &[u64]) -> u64 {
-    let mut sum = 0u64;
-    for number in numbers {
-        sum = sum.wrapping_add(*number);
-    }
-    sum
 }
 
 /// Each thread puts keys of its own, and hands its seat back. One seat meets all of them, and then

@@ -24,11 +24,10 @@ pub(crate) fn measure<R: Threads + Wait + Clock + Print + Eprint + Sync>(
     asked: &Asked,
 ) -> io::Result<()> {
     if asked.is_peer("parts") {
-        let table: Parts<u64, u64, Fold, Anything> = Parts::new(alloc, BuildHasherDefault::new())?;
-        time_table(rt, alloc, "parts", &table, asked)?;
+        time_parts(rt, alloc, asked)?;
     }
     if asked.is_peer("named") {
-        named::<Brand, R>(rt, alloc, OpenBook::new(BuildHasherDefault::new()), asked)?;
+        time_named::<Brand, _>(rt, alloc, OpenBook::new(BuildHasherDefault::new()), asked)?;
     }
     if asked.is_peer("map") {
         time_map(rt, alloc, asked)?;
@@ -36,7 +35,18 @@ pub(crate) fn measure<R: Threads + Wait + Clock + Print + Eprint + Sync>(
     Ok(())
 }
 
-fn named<J: Naming + Send + Sync, R: Threads + Wait + Clock + Print + Eprint + Sync>(
+/// Times the work of a table without a name.
+fn time_parts<R: Threads + Wait + Clock + Print + Eprint + Sync>(
+    rt: &R,
+    alloc: Global,
+    asked: &Asked,
+) -> io::Result<()> {
+    let table: Parts<u64, u64, Fold, Anything> = Parts::new(alloc, BuildHasherDefault::new())?;
+    time_table(rt, alloc, "parts", &table, asked)
+}
+
+/// Times the work of a table whose history has a name.
+fn time_named<J: Naming + Send + Sync, R: Threads + Wait + Clock + Print + Eprint + Sync>(
     rt: &R,
     alloc: Global,
     book: OpenBook<u64, u64, Fold>,
@@ -62,14 +72,13 @@ where
 {
     let (work, keys, calls) = (asked.work(), asked.keys(), asked.share());
     let _ = of_table(rt, table, Work::Put, keys, 0, keys);
-    let start = Instant::now(rt)?;
-    let found = thread::map_indices(
+    time(
         rt,
         alloc,
-        asked.threads() as usize,
+        name,
+        asked,
         &|number| of_table(rt, table, work, keys, number as u64, calls),
-    )?;
-    tell(rt, name, asked, found.as_slice(), start)
+    )
 }
 
 /// Fills std's map, and times the calls of all threads.
@@ -81,30 +90,43 @@ fn time_map<R: Threads + Wait + Clock + Print + Eprint + Sync>(
     let map: Map = Mutex::new(HashMap::new(alloc));
     let (work, keys, calls) = (asked.work(), asked.keys(), asked.share());
     let _ = of_map(rt, &map, Work::Put, keys, 0, keys);
-    let start = Instant::now(rt)?;
-    let found = thread::map_indices(
+    time(
         rt,
         alloc,
-        asked.threads() as usize,
+        "map",
+        asked,
         &|number| of_map(rt, &map, work, keys, number as u64, calls),
-    )?;
-    tell(rt, "map", asked, found.as_slice(), start)
+    )
+}
+
+/// Runs what each of the threads does, and prints how many of its calls found a pair, and the time
+/// that a call took in its thread.
+fn time<F: Fn(usize) -> u64 + Sync, R: Threads + Clock + Print + Eprint + Sync>(
+    rt: &R,
+    alloc: Global,
+    name: &str,
+    asked: &Asked,
+    run: &F,
+) -> io::Result<()>
+    requires { (thread : ℕ) → F.pre run.now thread }
+{
+    let start = Instant::now(rt)?;
+    let mut all = 0u64;
+    for found in thread::map_indices(rt, alloc, asked.threads() as usize, run)? {
+        all = all.wrapping_add(found);
+    }
+    tell(rt, name, asked, all, start.elapsed(rt)?.as_nanos())
 }
 
 /// Prints how many of the calls found a pair, and the time a call took in its thread.
-fn tell<R: Clock + Print + Eprint>(
+fn tell<R: Print + Eprint>(
     rt: &R,
     name: &str,
     asked: &Asked,
-    found: &[u64],
-    start: Instant,
+    found: u64,
+    nanos: u128,
 ) -> io::Result<()> {
-    let nanos = start.elapsed(rt)?.as_nanos();
-    let mut all = 0u64;
-    for found in found {
-        all = all.wrapping_add(*found);
-    }
-    println!(rt; "{name} {all}")?;
+    println!(rt; "{name} {found}")?;
     let each = nanos / u128::from(asked.share().max(1));
     eprintln!(rt; "{name}: {each} ns a call")
 }

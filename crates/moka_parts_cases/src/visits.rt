@@ -4,8 +4,8 @@ use crate::totals::total;
 use moka_parts::Parts;
 use std::alloc::{AllocError, Global};
 use std::hash::{BuildHasherDefault, FoldHasher};
-use std::io;
 use std::sync::Wait;
+use std::test::*;
 use std::thread::Threads;
 
 const VISITS: u64 = 1000;
@@ -25,17 +25,31 @@ fn note<R: Wait>(rt: &R, pages: &Pages, page: u64) -> Result<u64, AllocError> {
     })
 }
 
+#[test]
+fn no_visit_is_lost(rt: HostRuntime) -> Result<(), Fail> {
+    assert!(rt; are_all_counted(&rt, rt.alloc())?);
+    Ok(())
+}
+
+/// Whether each visit of a new page is counted.
+fn are_all_counted<R: Threads + Wait + Sync>(rt: &R, alloc: Global) -> Result<bool, AllocError> {
+    let pages: Pages = Parts::new(alloc, BuildHasherDefault::new())?;
+    all_come(rt, alloc, &pages)
+}
+
 /// Visitors come by all doors at once, and each door counts what its visits took out. With what is
 /// left at the end these are all visits.
-pub(crate) fn show<R: Threads + Wait + Print + Sync>(rt: &R, alloc: Global) -> io::Result<()> {
-    let pages: Pages = Parts::new(alloc, BuildHasherDefault::new())?;
-    let counted = total(rt, alloc, DOORS, &|_| come(rt, &pages))?;
-    let last = pages.take_out_if(rt, &0, |_, _| true);
-    let left = match last {
+fn all_come<R: Threads + Wait + Sync>(
+    rt: &R,
+    alloc: Global,
+    pages: &Pages,
+) -> Result<bool, AllocError> {
+    let counted = total(rt, alloc, DOORS, &|_| come(rt, pages))?;
+    let left = match pages.take_out_if(rt, &0, |_, _| true) {
         Some((_, visits)) => visits,
         None => 0,
     };
-    println!(rt; "visits {}", counted.wrapping_add(left))
+    Ok(counted.wrapping_add(left) == VISITS.wrapping_mul(DOORS as u64))
 }
 
 /// How many visits one door has counted.

@@ -1,7 +1,7 @@
 use Rattle.std.proofs.Common.{refl}
 use Rattle.moka_parts.proofs.Prefixes.{prefix_trans}
 use Rattle.moka_parts.proofs.Histories.{changes_in-prefix}
-use Rattle.moka_parts.proofs.named.NamedParts.meet.Goals as goal
+use Rattle.moka_parts.proofs.named.NamedPartsSharedTable.meet.Goals as goal
 
 pub returns-clause-left : goal.returns-clause-left
 returns-clause-left g c = rw (← c.a.view_is, ← c.b.view_is) (

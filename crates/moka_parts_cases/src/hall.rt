@@ -4,8 +4,8 @@ use crate::totals::total;
 use moka_parts::Parts;
 use std::alloc::{AllocError, Global};
 use std::hash::{BuildHasherDefault, FoldHasher};
-use std::io;
 use std::sync::Wait;
+use std::test::*;
 use std::thread::Threads;
 
 const PLACES: u64 = 100;
@@ -26,14 +26,29 @@ fn cancel<R: Wait>(rt: &R, hall: &Hall, place: u64, guest: u64) -> bool {
         .is_some()
 }
 
+#[test]
+fn each_place_is_booked_by_one_guest(rt: HostRuntime) -> Result<(), Fail> {
+    assert!(rt; are_booked_once(&rt, rt.alloc())?);
+    Ok(())
+}
+
+/// Whether each place of a new hall is booked by one guest.
+fn are_booked_once<R: Threads + Wait + Sync>(rt: &R, alloc: Global) -> Result<bool, AllocError> {
+    let hall: Hall = Parts::new(alloc, BuildHasherDefault::new())?;
+    all_book(rt, alloc, &hall)
+}
+
 /// All guests book all places at once: each place is booked by one of them. Then each gives back
 /// what it has booked.
-pub(crate) fn show<R: Threads + Wait + Print + Sync>(rt: &R, alloc: Global) -> io::Result<()> {
-    let hall: Hall = Parts::new(alloc, BuildHasherDefault::new())?;
-    let booked = total(rt, alloc, GUESTS, &|guest| books(rt, &hall, guest as u64))?;
-    println!(rt; "booked {booked}, taken {}", hall.len(rt))?;
-    let left = total(rt, alloc, GUESTS, &|guest| leaves(rt, &hall, guest as u64))?;
-    println!(rt; "given back {left}, taken {}", hall.len(rt))
+fn all_book<R: Threads + Wait + Sync>(
+    rt: &R,
+    alloc: Global,
+    hall: &Hall,
+) -> Result<bool, AllocError> {
+    let booked = total(rt, alloc, GUESTS, &|guest| books(rt, hall, guest as u64))?;
+    let taken = hall.len(rt);
+    let left = total(rt, alloc, GUESTS, &|guest| leaves(rt, hall, guest as u64))?;
+    Ok(booked == PLACES && taken == PLACES && left == PLACES && hall.len(rt) == 0)
 }
 
 /// How many places the guest gets.
