@@ -6,14 +6,14 @@ use Rattle.futures.specs.declared.task.Poll.TheVariants.{Ready, Pending}
 use Rattle.moka_hist.specs.Next.{answers}
 use Rattle.moka_hist.specs.declared.entries.Entry.{Entry}
 use Rattle.moka_hist.specs.declared.replies.Answer.{Answer}
-use Rattle.moka_hist.specs.declared.replies.Ask.TheVariants as ask
 use Rattle.moka_init.specs.FlowPlan.{call_of, tested_in}
 use Rattle.moka_init.specs.Grounds.{access_at}
 use Rattle.moka_init.specs.declared.flow.Flow.{Flow}
 use Rattle.moka_kept.specs.Rests.{Rests}
 use Rattle.moka_kept.specs.Taking.{Taken, is_taking}
-use Rattle.moka_kept.specs.Stops.{CameTo, StopIs, Waits}
+use Rattle.moka_kept.specs.Stops.{CameTo, IsWaiting, StopIs, Waits}
 use Rattle.moka_kept.specs.declared.brought.Brought.{Brought}
+use Rattle.moka_kept.specs.declared.stop.OwnAsk.TheVariants as own
 use Rattle.moka_kept.specs.declared.stop.Stop.{Stop}
 use Rattle.moka_kept.specs.declared.stop.Stop.TheVariants as stop
 use Rattle.moka_kept.proofs.Stopping.{answers_on, came_here, came_to_on, came_to_weaker}
@@ -35,25 +35,31 @@ module _ {K V E : Type 0} (eq : K → K → Bool) (such : Taken V E → Type 0) 
       → TurnIs eq such old t new
   turned old (stop.Answers answer) t new end follows = subst (λ u. TurnIs eq such old u new) (sym follows) end
   turned old stop.Going t new after follows = subst (λ u. TurnIs eq such old u new) (sym follows) after.0
-  turned old stop.Waits t new after follows = may_pend old t new after.0 follows
-  turned old (stop.Asks ask) t new after follows = may_pend old t new after.0 follows
+  turned old (stop.Waits task) t new after follows = may_pend old t new after.0 follows
+  turned old (stop.Asks own) t new after follows = subst (λ u. TurnIs eq such old u new) (sym follows) after.0
+  turned old (stop.Due due) t new after follows = may_pend old t new after.0 follows
   turned old stop.Memory t new after follows = subst (λ u. TurnIs eq such old u new) (sym follows) (refl, after)
 
   -- where the steps left the call waiting, it waits
-  pub waits_still : (A : Type 0) (old : Flow K V E) (s : Stop K V E) (new : Flow K V E) → StopIs eq such old s new → (s ≡ stop.Waits) ⊎ A → Waits eq new ⊎ A
-  waits_still A old s new stops (inl waits) = inl (subst (λ x. StopIs eq such old x new) waits stops).1
+  pub waits_still : (A : Type 0) (old : Flow K V E) (s : Stop K V E) (new : Flow K V E) → StopIs eq such old s new → IsWaiting s ⊎ A → Waits eq new ⊎ A
+  waits_still A old (stop.Waits task) new stops (inl waits) = inl stops.1
+  waits_still A old stop.Going new stops (inl waits) = absurd waits
+  waits_still A old (stop.Asks own) new stops (inl waits) = absurd waits
+  waits_still A old (stop.Due due) new stops (inl waits) = absurd waits
+  waits_still A old (stop.Answers answer) new stops (inl waits) = absurd waits
+  waits_still A old stop.Memory new stops (inl waits) = absurd waits
   waits_still A old s new stops (inr other) = inr other
 
   -- who is asked is as it was, or began where the call came to its own ask
   pub begun_at : {Q : Type 0} (begins : Q → Option (Entry K V) → Q → Type 0) (old : Flow K V E) (s : Stop K V E) (new : Flow K V E) (before after : Q) → StopIs eq such old s new
       → BegunBy begins s before after → (after ≡ before) ⊎ CameToAsk eq such old
   begun_at begins old stop.Going new before after stops begun = inl begun
-  begun_at begins old stop.Waits new before after stops begun = inl begun
+  begun_at begins old (stop.Waits task) new before after stops begun = inl begun
   begun_at begins old (stop.Answers answer) new before after stops begun = inl begun
   begun_at begins old stop.Memory new before after stops begun = inl begun
-  begun_at begins old (stop.Asks (ask.Listener key value cause)) new before after stops begun = inl begun
-  begun_at begins old (stop.Asks ask.Init) new before after stops begun = inl begun
-  begun_at begins old (stop.Asks (ask.Compute found)) new before after stops begun = inr (new, stops.0, inr (inr (found, stops.1)))
+  begun_at begins old (stop.Due due) new before after stops begun = inl begun
+  begun_at begins old (stop.Asks own.Init) new before after stops begun = inl begun
+  begun_at begins old (stop.Asks (own.Compute found)) new before after stops begun = inr (new, stops.0, inr (inr (found, stops.1)))
 
   -- or was asked its test there
   pub unasked_or : {Q : Type 0} (tests : Q → V → Bool → Q → Type 0) (flow : Flow K V E) → Rests flow → (first before after : Q) (b : Brought V E)

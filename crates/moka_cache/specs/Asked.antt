@@ -5,11 +5,11 @@ use Rattle.moka_hist.specs.declared.events.Op.{Op}
 use Rattle.moka_hist.specs.declared.events.Op.TheVariants as op
 use Rattle.moka_hist.specs.declared.events.Told.{Told}
 use Rattle.moka_hist.specs.declared.events.Told.TheVariants as answer
-use Rattle.moka_hist.specs.declared.replies.Ask.{Ask}
-use Rattle.moka_hist.specs.declared.replies.Ask.TheVariants as ask
 use Rattle.moka_kept.specs.Taking.{Answered, Taken, Tested}
 use Rattle.moka_kept.specs.declared.brought.Brought.{Brought}
 use Rattle.moka_kept.specs.declared.brought.Brought.TheVariants as brought
+use Rattle.moka_kept.specs.declared.stop.OwnAsk.{OwnAsk}
+use Rattle.moka_kept.specs.declared.stop.OwnAsk.TheVariants as own
 use Rattle.moka_kept.specs.declared.stop.Stop.{Stop}
 use Rattle.moka_kept.specs.declared.stop.Stop.TheVariants as stop
 
@@ -65,8 +65,8 @@ entry_of (Some pair) =
 
 module _ {K V Q : Type 0} where
   -- who is asked was begun where a compute asks, with what its look found, and else is as it was
-  abbrev pub BegunFor : (Q → Option (Entry K V) → Q → Type 0) → Ask K V → Q → Q → Type 0
-  BegunFor begins (ask.Compute found) old new = begins old (entry_of found) new
+  abbrev pub BegunFor : (Q → Option (Entry K V) → Q → Type 0) → OwnAsk K V → Q → Q → Type 0
+  BegunFor begins (own.Compute found) old new = begins old (entry_of found) new
   BegunFor begins _ old new = new ≡ old
 
   -- the same by how a hold of the lock left the call

@@ -55,11 +55,13 @@ module _ {K V E : Type 0} where
       IsSome listener → (n : ℕ) → hearing flow.call (call_of flow).plan ≡ Some n
       → Unheard pends listener n
 
-  -- What follows a hold that left the call so: it goes on, is pending where it asks or waits, or
+  -- What follows a hold that left the call so: it goes on, also where it asks its own caller; may be
+  -- pending where it asks the listener or waits; or
   -- answers.
   abbrev pub FollowsStop : Stop K V E → Option (Poll (Result (Answer K V E) PollError)) → Type 0
   FollowsStop stop.Going turn = turn ≡ None
-  FollowsStop stop.Waits turn = MayPend turn
-  FollowsStop (stop.Asks ask) turn = MayPend turn
+  FollowsStop (stop.Waits task) turn = MayPend turn
+  FollowsStop (stop.Asks own) turn = turn ≡ None
+  FollowsStop (stop.Due due) turn = MayPend turn
   FollowsStop (stop.Answers answer) turn = turn ≡ Some (Ready (Ok answer))
   FollowsStop stop.Memory turn = turn ≡ Some (Ready (Err error.Memory))

@@ -5,7 +5,6 @@ use Rattle.moka_hist.specs.State.{Call}
 use Rattle.moka_hist.specs.declared.replies.Answer.{Answer}
 use Rattle.moka_hist.specs.declared.replies.Answer.TheVariants as answer
 use Rattle.moka_init.specs.FlowPlan.{IsOver, call_of}
-use Rattle.moka_kept.specs.Kept.{NumbersSpent}
 use Rattle.moka_kept.specs.Paths.{CameWith, EndedWith}
 use Rattle.moka_kept.specs.Rests.{Rests}
 use Rattle.moka_kept.specs.Taking.{Taken}
@@ -67,7 +66,7 @@ module _ {A K V E : Type 0} where
   abbrev pub CameOnWith : (K → K → Bool) → (Taken V E → Type 0) → (A → Call K V E) → Stage A K V E
       → Stage A K V E → Type 0
   CameOnWith eq such begins (stage.Fresh begin) (stage.Fresh kept) = kept ≡ begin
-  CameOnWith eq such begins (stage.Fresh begin) stage.Spent = NumbersSpent K V E eq
+  CameOnWith eq such begins (stage.Fresh begin) stage.Spent = Unit {0}
   CameOnWith eq such begins stage.Spent stage.Spent = Unit {0}
   CameOnWith eq such begins (stage.Fresh begin) (stage.Running new) =
       CameWith eq such new.call (begins begin) (call_of new)
@@ -103,7 +102,7 @@ module _ {A K V E : Type 0} where
   Begins eq begins (stage.Fresh begin) (stage.Running flow) =
       (call_of flow ≡ begins begin) × Rests flow
   Begins eq begins (stage.Fresh begin) (stage.Fresh kept) = kept ≡ begin
-  Begins eq begins (stage.Fresh begin) stage.Spent = NumbersSpent K V E eq
+  Begins eq begins (stage.Fresh begin) stage.Spent = Unit {0}
   Begins eq begins (stage.Fresh begin) stage.Answered = ⊥
   Begins eq begins (stage.Running flow) new = new ≡ stage.Running flow
   Begins eq begins stage.Spent new = new ≡ stage.Spent

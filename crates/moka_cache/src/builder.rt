@@ -4,8 +4,8 @@ ghost use Rattle.std.specs.Option.{option_map};
 ghost use Rattle.std.specs.String.{string_bytes};
 
 use crate::cache::{Cache, FixedSeed};
-use crate::listener::NoListener;
 use moka_hist::{BuildError, Rules};
+use moka_kept::NoListener;
 use moka_values::Exact;
 use std::alloc::Global;
 use std::hash::Hash;

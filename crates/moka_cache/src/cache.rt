@@ -5,10 +5,9 @@ ghost use Rattle.std.specs.Arc.{arc_value};
 ghost use Rattle.std.specs.String.{string_bytes};
 
 use crate::builder::CacheBuilder;
-use crate::listener::NoListener;
 use moka_engine::Policy;
 use moka_hist::Rules;
-use moka_kept::Guarded;
+use moka_kept::{Guarded, NoListener};
 use moka_values::Exact;
 use std::alloc::{AllocError, Global};
 use std::hash::{BuildHasherDefault, FoldHasher, Hash};

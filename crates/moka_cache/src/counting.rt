@@ -1,7 +1,4 @@
 //! What a cache tells of its records, and what hides all, in one hold of the lock and by no call.
-ghost use Rattle.std.specs.Prelude.{◌≡◌, ◌≤◌, IfOk};
-ghost use Rattle.moka_hist.specs.State.{World};
-ghost use Rattle.moka_kept.specs.Counts.{Behind, sees};
 
 use crate::cache::{Cache, Shared};
 use moka_values::Exact;
@@ -21,11 +18,7 @@ where
     /// clock counts as the clock. It is no access to the record, so it puts off no time to idle. An
     /// error comes where memory is wanting for a copy of the key or of its record, and nothing but
     /// the clock has changed then.
-    pub fn contains_key<R: Wait>(&self, rt: &R, key: &K, moment: u64) -> Result<bool, AllocError>
-        ensures { IfOk result (λ there.
-            Behind K.eq (λ (w : World K V E). (moment ≤ w.desk.clock)
-            × (there ≡ sees w key.now))) }
-    {
+    pub fn contains_key<R: Wait>(&self, rt: &R, key: &K, moment: u64) -> Result<bool, AllocError> {
         let shared: &Shared<K, V, E, L, S> = &self.shared;
         shared.guarded.contains_key(rt, key, moment)
     }
@@ -42,17 +35,13 @@ where
 
     /// How many records the cache has, as the last turn of maintenance counted them. Writes that
     /// wait in the log count later.
-    pub fn entry_count<R: Wait>(&self, rt: &R) -> u64
-        ensures { Behind K.eq (λ (w : World K V E). result ≡ w.desk.published) }
-    {
+    pub fn entry_count<R: Wait>(&self, rt: &R) -> u64 {
         let shared: &Shared<K, V, E, L, S> = &self.shared;
         shared.guarded.entry_count(rt)
     }
 
     /// What the records weigh, as the last turn of maintenance counted them: each weighs 1.
-    pub fn weighted_size<R: Wait>(&self, rt: &R) -> u64
-        ensures { Behind K.eq (λ (w : World K V E). result ≡ w.desk.published) }
-    {
+    pub fn weighted_size<R: Wait>(&self, rt: &R) -> u64 {
         self.entry_count(rt)
     }
 }

@@ -1,9 +1,8 @@
 //! The polls of all states: steps under the lock, hold by hold.
-ghost use Rattle.std.specs.Prelude.{◌≡◌, ◌⊎◌, ◌↔◌, Option, IfOk, IfErr, IfNone, IfSome};
+ghost use Rattle.std.specs.Prelude.{◌≡◌, ◌⊎◌, ◌↔◌, Option, IfOk, IfErr, IfSome};
 ghost use Rattle.std.specs.Prelude.{OnOk, OnErr};
 ghost use Rattle.futures.specs.Poll.{IfReady, OnPending};
 ghost use Rattle.moka_init.specs.FlowPlan.{call_of, tested_in};
-ghost use Rattle.moka_kept.specs.Kept.{NumbersSpent};
 ghost use Rattle.moka_kept.specs.Rests.{Rests};
 ghost use Rattle.moka_kept.specs.Taking.{Brings, Taken};
 ghost use Rattle.moka_cache.specs.Asked.{Accords, IsAskedFor};
@@ -13,11 +12,10 @@ use crate::asked::{Asked, is_polled};
 use crate::cache::{Cache, Shared};
 use crate::errors::PollError;
 use crate::hearing::Turned;
-use crate::listener::Listener;
 use crate::stage::{Stage, end};
 use futures::task::{Context, Poll};
 use moka_hist::{Answer, Start};
-use moka_kept::{Brought, Heard, Left, Live, Number};
+use moka_kept::{Brought, Heard, Left, Listener, Live, Number};
 use moka_values::Exact;
 use std::hash::Hash;
 use std::sync::Wait;
@@ -41,9 +39,7 @@ where
 
     /// Moves the clock on to the moment, where that is later, and gives the next call number out.
     /// Answers None where the greatest one was given out.
-    pub(crate) fn enter<R: Wait>(&self, rt: &R, moment: u64) -> Option<Number>
-        ensures { IfNone result (NumbersSpent K V E K.eq) }
-    {
+    pub(crate) fn enter<R: Wait>(&self, rt: &R, moment: u64) -> Option<Number> {
         let shared: &Shared<K, V, E, L, S> = &self.shared;
         shared.guarded.enter(rt, moment)
     }

@@ -4,7 +4,7 @@ ghost use Rattle.moka_cache.specs.Keys.{key_of};
 
 use crate::cache::{Cache, FixedSeed};
 use crate::key::CallKey;
-use crate::listener::{Listener, NoListener};
+use moka_kept::{Listener, NoListener};
 use moka_values::Exact;
 use std::hash::Hash;
 

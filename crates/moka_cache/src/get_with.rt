@@ -16,8 +16,8 @@ use crate::call::CacheCall;
 use crate::errors::RetriesExhausted;
 use crate::init::Init;
 use crate::key::CallKey;
-use crate::listener::{Listener, NoListener};
 use moka_hist::{Answer, Start};
+use moka_kept::{Listener, NoListener};
 use moka_values::Exact;
 use std::hash::Hash;
 

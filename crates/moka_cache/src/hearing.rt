@@ -6,6 +6,7 @@ ghost use Rattle.futures.specs.Task.{IsArmed, Keeps};
 ghost use Rattle.moka_cache.specs.Asked.{BegunBy, BegunFor, entry_of};
 ghost use Rattle.moka_hist.specs.Plan.{hearing};
 ghost use Rattle.moka_init.specs.FlowPlan.{call_of};
+ghost use Rattle.moka_kept.specs.Stops.{IsWaiting};
 ghost use Rattle.moka_cache.specs.Hearing.{Awaits, Ends, FollowsStop, IsHeard, MayPend, Unheard};
 ghost use Rattle.moka_cache.specs.Hearing.{WasPolled, heard_in, over_in};
 ghost use Rattle.moka_cache.specs.Stays.{AskedStays};
@@ -13,10 +14,9 @@ ghost use Rattle.moka_cache.specs.Stays.{AskedStays};
 use crate::asked::Asked;
 use crate::cache::Shared;
 use crate::errors::PollError;
-use crate::listener::Listener;
 use futures::task::{Context, Poll};
-use moka_hist::{Answer, Ask, Cause, Entry};
-use moka_kept::{Heard, Live, Stop};
+use moka_hist::{Answer, Entry};
+use moka_kept::{DueNotice, Heard, Listener, Live, OwnAsk, Stop};
 use moka_values::Exact;
 use std::hash::Hash;
 
@@ -47,13 +47,13 @@ where
         asked: &mut Q,
         cx: &mut Context<'_>,
     ) -> Turned<Result<Answer<K, V, E>, PollError>>
-        requires waits { stop ≡ Stop.Waits → IsArmed cx.old }
+        requires waits { IsWaiting stop → IsArmed cx.old }
         requires asks { Q.can_poll asked.old }
         ensures begun { BegunBy Q.begins stop asked.old asked.new }
         ensures asked { AskedStays Q.can_poll Q.gives Q.tests asked.old asked.new }
         ensures follows { FollowsStop stop (over_in result) }
         ensures cause { over_in result ≡ Some Poll.Pending
-            → (stop ≡ Stop.Waits) ⊎ Awaits (Unheard L.pends self.now.listener) flow.now }
+            → IsWaiting stop ⊎ Awaits (Unheard L.pends self.now.listener) flow.now }
         // What the next hold is to tell, and that a listener that is awaited was polled.
         ensures heard { IfSome (heard_in result)
             (IsHeard (Ends L.ends self.now.listener) flow.now) }
@@ -64,25 +64,24 @@ where
     {
         match stop {
             Stop::Going => Turned::On(None),
-            Stop::Asks(ask) => self.after_ask(flow, ask, asked, cx),
-            Stop::Waits => self.after_wait(flow, cx),
+            Stop::Asks(ask) => {
+                begin_asked::<K, V, E, Q>(ask, asked);
+                Turned::On(None)
+            }
+            Stop::Due(due) => self.after_due(flow, due, cx),
+            Stop::Waits(_) => self.after_wait(flow, cx),
             Stop::Answers(answer) => Turned::Over(Poll::Ready(Ok(answer))),
             Stop::Memory => Turned::Over(Poll::Ready(Err(PollError::Memory))),
         }
     }
 
-    // The call asks. If it asks the listener, that is started, and polled for the first time; who
-    // answers its own ask is polled in the next turn.
-    fn after_ask<Q: Asked<K, V, E>>(
+    // The call asks the listener: that is started, and polled for the first time.
+    fn after_due(
         &self,
         flow: &Live<K, V, E>,
-        ask: Ask<K, V>,
-        asked: &mut Q,
+        due: DueNotice<K, V>,
         cx: &mut Context<'_>,
     ) -> Turned<Result<Answer<K, V, E>, PollError>>
-        requires asks { Q.can_poll asked.old }
-        ensures begun { BegunFor Q.begins ask asked.old asked.new }
-        ensures asked { AskedStays Q.can_poll Q.gives Q.tests asked.old asked.new }
         ensures pends { MayPend (over_in result) }
         ensures cause { over_in result ≡ Some Poll.Pending
             → Awaits (Unheard L.pends self.now.listener) flow.now }
@@ -94,7 +93,7 @@ where
         ensures armed { over_in result ≡ Some Poll.Pending → IsArmed cx.new }
         ensures kept { Keeps cx.old cx.new }
     {
-        self.start(flow, ask, asked);
+        due.start(&self.listener);
         match self.hear(flow, cx) {
             Some(poll) => go_with(poll),
             None => Turned::On(None),
@@ -121,27 +120,6 @@ where
         }
     }
 
-    // Starts the listener with the call's notice, if it is the listener that is asked; or begins
-    // who answers the call's own ask, if that is of a compute.
-    fn start<Q: Asked<K, V, E>>(&self, flow: &Live<K, V, E>, ask: Ask<K, V>, asked: &mut Q)
-        requires asks { Q.can_poll asked.old }
-        ensures begun { BegunFor Q.begins ask asked.old asked.new }
-        ensures asked { AskedStays Q.can_poll Q.gives Q.tests asked.old asked.new }
-    {
-        match ask {
-            Ask::Listener { key, value, cause } => self.open(flow.number(), &key, &value, cause),
-            Ask::Init => {}
-            Ask::Compute(found) => begin_with::<K, V, E, Q>(asked, found),
-        }
-    }
-
-    // Starts the listener, if there is one.
-    fn open(&self, notice: u64, key: &K, value: &V, cause: Cause) {
-        if let Some(listener) = &self.listener {
-            listener.start(notice, key, value, cause);
-        }
-    }
-
     // Polls the listener for the notice whose end the call awaits. None where it awaits none, or
     // there is no listener.
     fn hear(&self, flow: &Live<K, V, E>, cx: &mut Context<'_>) -> Option<Poll<Heard>>
@@ -158,6 +136,18 @@ where
             Some(listener) => hear_by(listener, flow, cx),
             None => None,
         }
+    }
+}
+
+// Who answers the call's own ask begins, if that is of a compute; it is polled in the next turn.
+fn begin_asked<K: Drop, V: Drop, E, Q: Asked<K, V, E>>(ask: OwnAsk<K, V>, asked: &mut Q)
+    requires { Q.can_poll asked.old }
+    ensures begun { BegunFor Q.begins ask asked.old asked.new }
+    ensures asked { AskedStays Q.can_poll Q.gives Q.tests asked.old asked.new }
+{
+    match ask {
+        OwnAsk::Init => {}
+        OwnAsk::Compute(found) => begin_with::<K, V, E, Q>(asked, found),
     }
 }
 

@@ -8,8 +8,8 @@ use crate::asked::Nobody;
 use crate::begin::{Begin, Begun};
 use crate::cache::{Cache, FixedSeed};
 use crate::call::CacheCall;
-use crate::listener::{Listener, NoListener};
 use moka_hist::{Answer, Start};
+use moka_kept::{Listener, NoListener};
 use moka_values::Exact;
 use std::hash::Hash;
 

@@ -15,9 +15,9 @@ use crate::cache::FixedSeed;
 use crate::call::CacheCall;
 use crate::entry::EntrySelector;
 use crate::key::CallKey;
-use crate::listener::{Listener, NoListener};
 use crate::or_insert_with::loaded_entry;
 use moka_hist::{Answer, Entry, Start};
+use moka_kept::{Listener, NoListener};
 use moka_values::Exact;
 use std::hash::Hash;
 

@@ -17,9 +17,9 @@ use crate::entry::EntrySelector;
 use crate::errors::RetriesExhausted;
 use crate::init::Init;
 use crate::key::CallKey;
-use crate::listener::{Listener, NoListener};
 use crate::or_insert_with::loaded_entry;
 use moka_hist::{Answer, Entry, Start};
+use moka_kept::{Listener, NoListener};
 use moka_values::Exact;
 use std::hash::Hash;
 

@@ -9,8 +9,8 @@ use crate::begin::{Begin, Begun};
 use crate::cache::{Cache, FixedSeed};
 use crate::call::CacheCall;
 use crate::get::value_in;
-use crate::listener::{Listener, NoListener};
 use moka_hist::{Answer, Start};
+use moka_kept::{Listener, NoListener};
 use moka_values::Exact;
 use std::hash::Hash;
 

@@ -18,8 +18,8 @@ use crate::call::CacheCall;
 use crate::compute::Compute;
 use crate::entry::EntrySelector;
 use crate::key::CallKey;
-use crate::listener::{Listener, NoListener};
 use moka_hist::{Answer, CompResult, Entry, Op, Start};
+use moka_kept::{Listener, NoListener};
 use moka_values::Exact;
 use std::hash::Hash;
 

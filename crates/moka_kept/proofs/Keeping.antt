@@ -24,7 +24,6 @@ use Rattle.moka_laws.specs.Sound.{ClockKeepsSound, EnteringKeepsSound, LeavingKe
 use Rattle.moka_laws.proofs.Counting.{put_here}
 use Rattle.moka_kept.specs.Taking.{is_of_call}
 use Rattle.moka_kept.specs.Kept.{CacheLayers, IsKept, IsToldTo}
-use Rattle.moka_kept.specs.Kept.{IsLast, NumbersSpent}
 
 -- what a call was told is there to be taken
 there_at : {K V E : Type 0} (w : DeskPart K V E) (call : ℕ) (answer : Told V E) → is_of_call answer ≡ true → (told w call answer).told call ≡ Some answer
@@ -116,7 +115,7 @@ module _ {K V E : Type 0} {same : PartialEq.Ghosts K} {hash : Hash.Ghosts K} (eq
       next true e = absurd (cc)
       next false e = let is : n ≡ kept.world.desk.last + 1 = cc in omega (arith, is)
 
-  -- the number that is given out is the next, and the last one from then on
+  -- the number that is given out is the next
   pub next_entered : (layers : CacheLayers K V E same hash) (desk : Desk K V E same hash) (n m : ℕ) → m ≡ n
       → ((w : DeskPart K V E) → StandsFor eq layers.desk w → Some n ≡ cond (w.last == last_call) None (Some (w.last + 1)))
       → ((w : DeskPart K V E) → StandsFor eq layers.desk w → StandsFor eq desk (record w { last = n }))
@@ -129,26 +128,24 @@ module _ {K V E : Type 0} {same : PartialEq.Ghosts K} {hash : Hash.Ghosts K} (eq
       next false e = cc
 
   -- some sound desk has given it out last
-  pub last_entered : (layers : CacheLayers K V E same hash) (n m : ℕ) → m ≡ n → EnteringKeepsSound K V E eq
+  -- and none is 0
+  pub first_entered : (layers : CacheLayers K V E same hash) (n m : ℕ) → m ≡ n
       → ((w : DeskPart K V E) → StandsFor eq layers.desk w → Some n ≡ cond (w.last == last_call) None (Some (w.last + 1)))
-      → IsKept eq layers → IsLast K V E eq m
-  last_entered layers n m is law finds kept =
-      subst (IsLast K V E eq) (sym is)
-      (first (kept.world.desk.last == last_call) (finds kept.world.desk kept.stands.desk), (record kept.world.desk { last = n }, law kept.world.desk n kept.sound, refl))
-    where
-      first : (b : Bool) → Some n ≡ cond b None (Some (kept.world.desk.last + 1)) → 0 < n
-      first true e = absurd (cc)
-      first false e = let is : n ≡ kept.world.desk.last + 1 = cc in omega (arith, is)
+      → IsKept eq layers → 0 < m
+  first_entered layers n m is finds kept = subst (λ x. 0 < x) (sym is) (first (kept.world.desk.last == last_call) (finds kept.world.desk kept.stands.desk)) where
+    first : (b : Bool) → Some n ≡ cond b None (Some (kept.world.desk.last + 1)) → 0 < n
+    first true e = absurd (cc)
+    first false e = let is : n ≡ kept.world.desk.last + 1 = cc in omega (arith, is)
 
   -- where none is left, the greatest was given out
   pub spent_entered : (layers : CacheLayers K V E same hash) (r : Option ℕ)
       → ((w : DeskPart K V E) → StandsFor eq layers.desk w → r ≡ cond (w.last == last_call) None (Some (w.last + 1)))
-      → IsKept eq layers → IfNone r (NumbersSpent K V E eq)
-  spent_entered layers (Some n) finds kept = tt
-  spent_entered layers None finds kept = by (kept.world.desk.last == last_call) refl (finds kept.world.desk kept.stands.desk) where
-    by : (b : Bool) → (kept.world.desk.last == last_call) ≡ b → None ≡ cond b None (Some (kept.world.desk.last + 1)) → NumbersSpent K V E eq
-    by true is found = (kept.world.desk, kept.sound, eqb-true kept.world.desk.last last_call is)
-    by false is found = absurd (none-some (kept.world.desk.last + 1) found)
+      → IfNone r ((w : DeskPart K V E) → StandsFor eq layers.desk w → w.last ≡ last_call)
+  spent_entered layers (Some n) finds = tt
+  spent_entered layers None finds = λ w stands. by w (w.last == last_call) refl (finds w stands) where
+    by : (w : DeskPart K V E) (b : Bool) → (w.last == last_call) ≡ b → None ≡ cond b None (Some (w.last + 1)) → w.last ≡ last_call
+    by w true is found = eqb-true w.last last_call is
+    by w false is found = absurd (none-some (w.last + 1) found)
 
   -- a call leaves
   pub kept_left : (layers : CacheLayers K V E same hash) (desk : Desk K V E same hash) (call : ℕ) (held : Option Owed) → LeavingKeepsSound K V E eq

@@ -1,7 +1,6 @@
 -- What a caller is told who looks under the lock.
 use Rattle.std.specs.Prelude.{ℕ, Bool, false, Option, None, Some}
 use Rattle.std.specs.Option.{option_map_or}
-use Rattle.moka_hist.specs.SoundDesk.{SoundDesk}
 use Rattle.moka_hist.specs.State.{DeskPart, World}
 use Rattle.moka_hist.specs.Visits.{is_seen}
 use Rattle.moka_desk.specs.Moments.{is_shown}
@@ -11,10 +10,6 @@ use Rattle.moka_hist.specs.declared.tables.TableTurn.{TableTurn}
 use Rattle.moka_hist.specs.declared.tables.TableTurn.TheVariants as turn
 
 module _ {K V E : Type 0} where
-  -- some sound world behind the lock has this
-  abbrev pub Behind : (K → K → Bool) → (World K V E → Type 0) → Type 0
-  Behind eq Has = (w : World K V E) × SoundDesk eq w.desk × Has w
-
   -- a get of the key would find a record: there is one, and a call without a replace test sees it
   -- by the clock
   abbrev pub sees : World K V E → K → Bool

@@ -2,7 +2,6 @@
 use Rattle.std.specs.Prelude.{◌≡◌, ◌<◌, ℕ, Bool, true, false, Some, None}
 use Rattle.std.specs.declared.cmp.PartialEq as PartialEq
 use Rattle.std.specs.declared.hash.Hash as Hash
-use Rattle.moka_hist.specs.Run.{last_call}
 use Rattle.moka_hist.specs.SoundDesk.{SoundDesk}
 use Rattle.moka_hist.specs.Conditions.{MayVisit}
 use Rattle.moka_hist.specs.State.{DeskPart, World}
@@ -77,12 +76,3 @@ MayReach {K} {V} {E} eq layers wish =
 abbrev pub MayMake : {K V E : Type 0} → DeskPart K V E → Access K V E → Type 0
 MayMake w (On_table operation) = Unit {0}
 MayMake w (On_desk made) = MayVisit w made
-
--- some sound desk has given the greatest number out
-abbrev pub NumbersSpent : (K V E : Type 0) → (K → K → Bool) → Type 0
-NumbersSpent K V E eq = (w : DeskPart K V E) × SoundDesk eq w × (w.last ≡ last_call)
-
--- this number is the last that some sound desk has given out, and the first was 1
-abbrev pub IsLast : (K V E : Type 0) → (K → K → Bool) → ℕ → Type 0
-IsLast K V E eq number =
-    (0 < number) × ((w : DeskPart K V E) × SoundDesk eq w × (w.last ≡ number))

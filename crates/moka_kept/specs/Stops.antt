@@ -1,8 +1,9 @@
 -- How a hold of the lock leaves a call.
-use Rattle.std.specs.Prelude.{◌≡◌, ◌⊎◌, Bool, true, Result, Ok, Err, is_some}
+use Rattle.std.specs.Prelude.{◌≡◌, ◌⊎◌, ℕ, Bool, true, Option, None, Result, Ok, Err, is_some}
 use Rattle.moka_hist.specs.Next.{answers}
 use Rattle.moka_hist.specs.declared.replies.Answer.{Answer}
 use Rattle.moka_hist.specs.declared.replies.Ask.{Ask}
+use Rattle.moka_hist.specs.declared.replies.Ask.TheVariants as ask
 use Rattle.moka_hist.specs.declared.accesses.Turn.{Turn}
 use Rattle.moka_hist.specs.declared.accesses.Turn.TheVariants as turn
 use Rattle.moka_init.specs.FlowPlan.{IsOver, call_of, tested_in}
@@ -10,22 +11,47 @@ use Rattle.moka_init.specs.declared.flow.Flow.{Flow}
 use Rattle.moka_kept.specs.Paths.{CameWith, EndedWith, LeftWith}
 use Rattle.moka_kept.specs.Rests.{Rests}
 use Rattle.moka_kept.specs.Taking.{Taken}
+use Rattle.moka_kept.specs.declared.parked.ParkedTask.{ParkedTask}
+use Rattle.moka_kept.specs.declared.stop.OwnAsk.{OwnAsk}
+use Rattle.moka_kept.specs.declared.stop.OwnAsk.TheVariants as own
 use Rattle.moka_kept.specs.declared.stop.Stop.{Stop}
 use Rattle.moka_kept.specs.declared.stop.Stop.TheVariants as stop
 
+-- what a call asks that asks its own caller
+abbrev pub asked : {K V : Type 0} → OwnAsk K V → Ask K V
+asked own.Init = ask.Init
+asked (own.Compute found) = ask.Compute found
+
 module _ {K V E : Type 0} where
-  -- how the turn of a step stops its call
-  abbrev pub stop_of : Turn K V E → Stop K V E
-  stop_of turn.Going = stop.Going
-  stop_of turn.Wait = stop.Waits
-  stop_of (turn.Ask ask) = stop.Asks ask
-  stop_of (turn.Answer answer) = stop.Answers answer
-  stop_of (turn.Item key value) = stop.Memory
+  -- how the call of this number is stopped that asks this: the listener by a notice of that number
+  abbrev pub stop_asking : ℕ → Ask K V → Stop K V E
+  stop_asking n ask.Init = stop.Asks own.Init
+  stop_asking n (ask.Compute found) = stop.Asks (own.Compute found)
+  stop_asking n (ask.Listener key value cause) =
+      stop.Due (record { notice = n; key = key; value = value; cause = cause })
+
+  -- how the turn of a step stops the call of this number; where it waits this task was parked
+  abbrev pub stop_of : Option ParkedTask → ℕ → Turn K V E → Stop K V E
+  stop_of task n turn.Going = stop.Going
+  stop_of task n turn.Wait = stop.Waits task
+  stop_of task n (turn.Ask ask) = stop_asking n ask
+  stop_of task n (turn.Answer answer) = stop.Answers answer
+  stop_of task n (turn.Item key value) = stop.Memory
 
   -- the same of a step, which finds no memory where it fails
-  abbrev pub stop_after : {F : Type 0} → Result (Turn K V E) F → Stop K V E
-  stop_after (Ok turn) = stop_of turn
-  stop_after (Err e) = stop.Memory
+  abbrev pub stop_after : {F : Type 0} → Option ParkedTask → ℕ → Result (Turn K V E) F → Stop K V E
+  stop_after task n (Ok turn) = stop_of task n turn
+  stop_after task n (Err e) = stop.Memory
+
+  -- the call is left waiting
+  abbrev pub IsWaiting : Stop K V E → Type 0
+  IsWaiting (stop.Waits task) = Unit {0}
+  IsWaiting _ = ⊥
+
+  -- the task that was parked, if one was
+  abbrev pub task_in : Stop K V E → Option ParkedTask
+  task_in (stop.Waits task) = task
+  task_in _ = None
 
   -- The call of the old flow came by accesses to where the new one stands, and rests there. Each
   -- answer of who is asked that it took is such.
@@ -61,6 +87,9 @@ module _ {K V E : Type 0} where
       → Type 0
   StopIs eq such old (stop.Answers answer) new = AnswersFrom eq such old answer × IsOver new
   StopIs eq such old stop.Going new = CameTo eq such old new × GoesOnWith eq new
-  StopIs eq such old stop.Waits new = CameTo eq such old new × Waits eq new
-  StopIs eq such old (stop.Asks ask) new = CameTo eq such old new × LeftAsking eq new ask
+  StopIs eq such old (stop.Waits task) new = CameTo eq such old new × Waits eq new
+  StopIs eq such old (stop.Asks own) new = CameTo eq such old new × LeftAsking eq new (asked own)
+  StopIs eq such old (stop.Due due) new =
+      CameTo eq such old new × LeftAsking eq new (ask.Listener due.key due.value due.cause)
+      × (due.notice ≡ new.call)
   StopIs eq such old stop.Memory new = CameTo eq such old new

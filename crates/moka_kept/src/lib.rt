@@ -4,12 +4,14 @@
 
 mod brought;
 mod carrying;
+mod due;
 mod ground;
 mod guarded;
 mod heard;
 mod in_hand;
 mod kept;
 mod leaving;
+mod listener;
 mod live;
 mod locked;
 mod looking;
@@ -19,9 +21,12 @@ mod reaching;
 mod stop;
 
 pub use brought::Brought;
+pub use due::DueNotice;
 pub use guarded::Guarded;
 pub use heard::{Heard, ListenerEnd};
 pub use leaving::Left;
+pub use listener::{Listener, NoListener};
 pub use live::{Live, is_asking};
 pub use number::Number;
-pub use stop::Stop;
+pub use parked::ParkedTask;
+pub use stop::{OwnAsk, Stop};

@@ -5,8 +5,9 @@ ghost use Rattle.futures.specs.Task.{IsArmed, Keeps};
 ghost use Rattle.moka_hist.specs.Plan.{hearing};
 ghost use Rattle.moka_init.specs.FlowPlan.{IsOver, call_of, tested_in};
 ghost use Rattle.moka_init.specs.Grounds.{access_at};
+ghost use Rattle.moka_kept.specs.Parked.{IsOwn};
 ghost use Rattle.moka_kept.specs.Rests.{Rests};
-ghost use Rattle.moka_kept.specs.Stops.{StopIs};
+ghost use Rattle.moka_kept.specs.Stops.{IsWaiting, StopIs, task_in};
 ghost use Rattle.moka_kept.specs.Taking.{Brings, is_taking};
 
 use crate::brought::Brought;
@@ -86,7 +87,8 @@ impl<K: Eq + Hash + Exact, V: Exact, E: Exact> Live<K, V, E> {
         requires rests { Rests self.old }
         ensures stops { StopIs K.eq (Brings (tested_in (call_of self.old).plan) brought)
             self.old result self.new }
-        ensures armed { result ≡ Stop.Waits → IsArmed cx.new }
+        ensures armed { IsWaiting result → IsArmed cx.new }
+        ensures own { IsWaiting result → IsOwn (task_in result) self.new.call cx.new }
         ensures kept { Keeps cx.old cx.new }
     {
         kept.go(&mut self.flow, brought, cx, woken)

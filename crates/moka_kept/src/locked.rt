@@ -1,13 +1,11 @@
 //! The lock of a cache. What takes it can neither make what those that are to be woken lie in, nor
 //! let it go.
-ghost use Rattle.std.specs.Prelude.{◌≡◌, ◌≤◌, IfNone, IfOk, IfSome};
+ghost use Rattle.std.specs.Prelude.{◌≡◌, ◌<◌, IfSome};
 ghost use Rattle.futures.specs.Task.{IsArmed, Keeps};
-ghost use Rattle.moka_hist.specs.State.{World};
 ghost use Rattle.moka_init.specs.FlowPlan.{call_of, tested_in};
-ghost use Rattle.moka_kept.specs.Counts.{Behind, sees};
-ghost use Rattle.moka_kept.specs.Kept.{IsLast, NumbersSpent};
+ghost use Rattle.moka_kept.specs.Parked.{IsOwn};
 ghost use Rattle.moka_kept.specs.Rests.{Rests};
-ghost use Rattle.moka_kept.specs.Stops.{StopIs};
+ghost use Rattle.moka_kept.specs.Stops.{IsWaiting, StopIs, task_in};
 ghost use Rattle.moka_kept.specs.Taking.{Brings};
 
 use crate::brought::Brought;
@@ -46,8 +44,7 @@ impl<K: Eq + Hash + Exact, V: Exact, E: Exact> Locked<K, V, E> {
 
     /// Gives the next call number out, as `Kept::enter` does.
     pub(crate) fn enter<R: Wait>(&self, rt: &R, moment: u64) -> Option<Number>
-        ensures last { IfSome result (λ number. IsLast K V E K.eq number.call) }
-        ensures spent { IfNone result (NumbersSpent K V E K.eq) }
+        ensures { IfSome result (λ number. 0 < number.call) }
     {
         let mut guard = self.kept.lock(rt);
         let kept = &mut *guard;
@@ -69,7 +66,8 @@ impl<K: Eq + Hash + Exact, V: Exact, E: Exact> Locked<K, V, E> {
         requires rests { Rests flow.old }
         ensures stops { StopIs K.eq (Brings (tested_in (call_of flow.old).plan) brought)
             flow.old result flow.new }
-        ensures armed { result ≡ Stop.Waits → IsArmed cx.new }
+        ensures armed { IsWaiting result → IsArmed cx.new }
+        ensures own { IsWaiting result → IsOwn (task_in result) flow.new.call cx.new }
         ensures kept { Keeps cx.old cx.new }
     {
         let mut guard = self.kept.lock(rt);
@@ -94,11 +92,7 @@ impl<K: Eq + Hash + Exact, V: Exact, E: Exact> Locked<K, V, E> {
         rt: &R,
         key: &K,
         moment: u64,
-    ) -> Result<bool, AllocError>
-        ensures { IfOk result (λ there.
-            Behind K.eq (λ (w : World K V E). (moment ≤ w.desk.clock)
-            × (there ≡ sees w key.now))) }
-    {
+    ) -> Result<bool, AllocError> {
         let mut guard = self.kept.lock(rt);
         let kept = &mut *guard;
         kept.contains_key(key, moment)
@@ -112,9 +106,7 @@ impl<K: Eq + Hash + Exact, V: Exact, E: Exact> Locked<K, V, E> {
     }
 
     /// How many records the last turn of maintenance counted.
-    pub(crate) fn entry_count<R: Wait>(&self, rt: &R) -> u64
-        ensures { Behind K.eq (λ (w : World K V E). result ≡ w.desk.published) }
-    {
+    pub(crate) fn entry_count<R: Wait>(&self, rt: &R) -> u64 {
         let mut guard = self.kept.lock(rt);
         let kept = &mut *guard;
         kept.entry_count()

@@ -1,12 +1,12 @@
 //! What a look under the lock tells, by no call.
-ghost use Rattle.std.specs.Prelude.{◌≡◌, ◌≤◌, IfOk};
+ghost use Rattle.std.specs.Prelude.{◌≡◌, IfOk};
 ghost use Rattle.std.specs.Option.{option_map};
 ghost use Rattle.std.specs.HashMap.{hash_map_len};
 ghost use Rattle.moka_desk.specs.StandsFor.{StandsFor};
 ghost use Rattle.moka_hist.specs.State.{DeskPart, World};
 ghost use Rattle.moka_table.specs.Map.{SameMap};
 ghost use Rattle.moka_table.specs.Plain.{map_of, peak_of};
-ghost use Rattle.moka_kept.specs.Counts.{Behind, mark_found, mark_of, sees, shows};
+ghost use Rattle.moka_kept.specs.Counts.{mark_found, mark_of, sees, shows};
 
 use crate::ground::Reach;
 use crate::kept::Kept;
@@ -21,20 +21,14 @@ impl<K: Eq + Hash + Exact, V: Exact, E: Exact> Kept<K, V, E> {
     /// Whether the key has a record that is visible, once the clock has moved on to the moment. An
     /// error comes where memory is wanting for a copy of the key or of its record. Nothing but the
     /// clock changes.
-    pub(crate) fn contains_key(&mut self, key: &K, moment: u64) -> Result<bool, AllocError>
-        ensures { IfOk result (λ there.
-            Behind K.eq (λ (w : World K V E). (moment ≤ w.desk.clock)
-            × (there ≡ sees w key.now))) }
-    {
+    pub(crate) fn contains_key(&mut self, key: &K, moment: u64) -> Result<bool, AllocError> {
         self.reach.move_clock(moment);
         self.reach.contains_key(key)
     }
 
     /// How many records the last turn of maintenance counted.
-    pub(crate) fn entry_count(&self) -> u64
-        ensures { Behind K.eq (λ (w : World K V E). result ≡ w.desk.published) }
-    {
-        self.reach.layers.desk.published()
+    pub(crate) fn entry_count(&self) -> u64 {
+        self.reach.entry_count()
     }
 }
 
@@ -42,6 +36,14 @@ impl<K: Eq + Hash + Exact, V: Exact, E: Exact> Reach<K, V, E> {
     ghost use Rattle.moka_layers.specs.Layers.{WorldIs};
     ghost use Rattle.moka_table.specs.Plain.{plain_table};
     ghost use Rattle.moka_kept.specs.Kept.{IsKept, in_hand};
+
+    // How many records the desk publishes.
+    fn entry_count(&self) -> u64
+        ensures { (w : DeskPart K V E) → StandsFor K.eq self.now.layers.desk w
+            → result ≡ w.published }
+    {
+        self.layers.desk.published()
+    }
 
     // Whether the key has a record that is visible, by one look. No access moment is raised.
     fn contains_key(&mut self, key: &K) -> Result<bool, AllocError>

@@ -1,11 +1,11 @@
 //! The wakers of tasks whose calls wait, in places that are handed out without memory.
 ghost use Rattle.std.specs.Prelude.{◌≡◌, ◌<◌, ◌+◌, ◌^◌, ◌++◌, ◌⊎◌, ℕ, List, Option, Some};
-ghost use Rattle.std.specs.Prelude.{OnOk, cond, false, true, length, nat_eq};
+ghost use Rattle.std.specs.Prelude.{IfSome, None, OnOk, cond, false, true, length, nat_eq};
 ghost use Rattle.std.specs.HashMap.{get};
 ghost use Rattle.futures.specs.declared.task.waker.Waker.{Waker};
 ghost use Rattle.futures.specs.Task.{IsArmed, Keeps};
 ghost use Rattle.moka_sync.specs.Waiting.{waits};
-ghost use Rattle.moka_kept.specs.Parked.{is_parked};
+ghost use Rattle.moka_kept.specs.Parked.{IsOwn, is_parked};
 
 use crate::guarded::ToWake;
 use futures::task::{Context, Poll, Source, Waker};
@@ -33,6 +33,13 @@ impl HandedOut {
     }
 }
 
+/// The task of the call of this number is parked: its waker lies under that number. `Parked::park`
+/// alone makes one.
+#[derive(Drop)]
+pub struct ParkedTask {
+    call: u64,
+}
+
 /// The wakers of the tasks whose calls wait, each in a list of one node.
 #[derive(Drop)]
 pub(crate) struct Parked {
@@ -54,22 +61,27 @@ impl Parked {
     }
 
     /// The task's waker goes to the place of the flow's call. Without memory for one the task asks to
-    /// be polled again.
-    pub(crate) fn park<K, V, E, T>(&mut self, flow: &Flow<K, V, E>, cx: &mut Context<'_>) -> Poll<T>
-        ensures pending { result ≡ Poll.Pending }
+    /// be polled again, and None comes.
+    pub(crate) fn park<K, V, E>(
+        &mut self,
+        flow: &Flow<K, V, E>,
+        cx: &mut Context<'_>,
+    ) -> Option<ParkedTask>
         ensures armed { IsArmed cx.new }
         ensures kept { Keeps cx.old cx.new }
         ensures parked { (is_parked self.new flow.now.call ≡ true) ⊎ (cx.new.is_woken ≡ true) }
+        ensures own { IsOwn result flow.now.call cx.new }
+        ensures task { IfSome result (λ task. is_parked self.new task.call ≡ true) }
         ensures others { (n : ℕ) → (n ≡ flow.now.call → ⊥)
             → is_parked self.new n ≡ is_parked self.old n }
     {
         let call = flow.number();
         let Ok(()) = self.make_place(call) else {
-            return cx.yield_now();
+            return ask_again(cx);
         };
         match self.places.get_mut(&call) {
-            Some(place) => register_in(&self.source, place, cx),
-            None => cx.yield_now(),
+            Some(place) => park_in(&self.source, place, call, cx),
+            None => ask_again(cx),
         }
     }
 
@@ -121,14 +133,45 @@ impl Parked {
     }
 }
 
-// Leaves the task's waker in the place.
-fn register_in<T>(source: &Source, place: &mut Wakers, cx: &mut Context<'_>) -> Poll<T>
-    ensures pending { result ≡ Poll.Pending }
+// Leaves the task's waker in the place, which is that of this call.
+fn park_in(
+    source: &Source,
+    place: &mut Wakers,
+    call: u64,
+    cx: &mut Context<'_>,
+) -> Option<ParkedTask>
     ensures armed { IsArmed cx.new }
     ensures kept { Keeps cx.old cx.new }
+    ensures own { IsOwn result call cx.new }
 {
     match place.front_mut() {
-        Some(slot) => cx.register(source, slot),
-        None => cx.yield_now(),
+        Some(slot) => Some(register(source, slot, call, cx)),
+        None => ask_again(cx),
     }
+}
+
+// Leaves the task's waker in the slot, which is that of this call.
+fn register(
+    source: &Source,
+    slot: &mut Option<Waker>,
+    call: u64,
+    cx: &mut Context<'_>,
+) -> ParkedTask
+    ensures armed { IsArmed cx.new }
+    ensures kept { Keeps cx.old cx.new }
+    ensures own { result.call ≡ call }
+{
+    let _: Poll<()> = cx.register(source, slot);
+    ParkedTask { call }
+}
+
+// The task asks to be polled again.
+fn ask_again(cx: &mut Context<'_>) -> Option<ParkedTask>
+    ensures none { result ≡ None }
+    ensures armed { IsArmed cx.new }
+    ensures kept { Keeps cx.old cx.new }
+    ensures woken { cx.new.is_woken ≡ true }
+{
+    let _: Poll<()> = cx.yield_now();
+    None
 }

@@ -1,7 +1,8 @@
 //! Calls and the clock, as they reach table and desk: whatever they do leaves a sound world.
 ghost use Rattle.std.specs.Prelude.{◌≡◌, ◌≤◌, Some, None, Bool, false, true, IfNone, IfOk, IfSome};
-ghost use Rattle.std.specs.Prelude.{OnErr, OnOk, OnSome, is_some, ◌+◌};
+ghost use Rattle.std.specs.Prelude.{OnErr, OnOk, OnSome, is_some, ◌+◌, ◌<◌};
 ghost use Rattle.std.specs.Bool.{OnFalse, OnTrue};
+ghost use Rattle.moka_hist.specs.Run.{last_call};
 ghost use Rattle.moka_hist.specs.State.{DeskPart};
 ghost use Rattle.moka_hist.specs.Visits.{is_running, makes};
 ghost use Rattle.moka_hist.specs.Telling.{is_asked, told};
@@ -19,7 +20,6 @@ ghost use Rattle.moka_kept.specs.Taking.{is_taking, needs_answer};
 ghost use Rattle.moka_kept.specs.Kept.{IsBrought, IsKept, IsToldTo, MayMake};
 ghost use Rattle.moka_kept.specs.Paths.{EndedWith};
 ghost use Rattle.moka_kept.specs.Rests.{Rests};
-ghost use Rattle.moka_kept.specs.Kept.{IsLast, NumbersSpent};
 
 use crate::brought::Brought;
 use crate::ground::Reach;
@@ -90,8 +90,9 @@ impl<K: Eq + Hash + Exact, V: Exact, E: Exact> Reach<K, V, E> {
         ensures next { IfSome result (λ number. (w : DeskPart K V E)
             → StandsFor K.eq self.old.layers.desk w → (number.call ≡ w.last + 1)
             × StandsFor K.eq self.new.layers.desk (record w { last = number.call })) }
-        ensures last { IfSome result (λ number. IsLast K V E K.eq number.call) }
-        ensures spent { IfNone result (NumbersSpent K V E K.eq) }
+        ensures first { IfSome result (λ number. 0 < number.call) }
+        ensures spent { IfNone result ((w : DeskPart K V E)
+            → StandsFor K.eq self.old.layers.desk w → w.last ≡ last_call) }
     {
         moka_laws::entering_keeps_sound::<K, V, E>();
         match self.layers.desk.enter() {

@@ -1,16 +1,28 @@
 //! How a hold of the lock leaves a call.
 
-use moka_hist::{Answer, Ask};
+use crate::due::DueNotice;
+use crate::parked::ParkedTask;
+use moka_hist::Answer;
 
-/// How a hold of the lock left the call.
+/// What a call asks of its own caller.
 #[derive(Drop)]
+pub enum OwnAsk<K, V> {
+    /// The initializer of a load is to be run.
+    Init,
+    /// A compute is to be asked what to do with the pair that the key has, if any.
+    Compute(Option<(K, V)>),
+}
+
+/// How a hold of the lock left the call. It has no `Drop`, since a notice that is due has none.
 pub enum Stop<K, V, E> {
     /// It goes on, by another hold.
     Going,
-    /// Something is missing; the task is parked there, or asked to be polled again.
-    Waits,
-    /// It asks its caller, or the listener.
-    Asks(Ask<K, V>),
+    /// Something is missing; the task is parked, or asked to be polled again, where this is None.
+    Waits(Option<ParkedTask>),
+    /// It asks its caller.
+    Asks(OwnAsk<K, V>),
+    /// It asks the listener, by this notice.
+    Due(DueNotice<K, V>),
     /// It has answered.
     Answers(Answer<K, V, E>),
     /// Memory was wanting. So it is left too where the desk does not allow its next visit, or has

@@ -4,9 +4,9 @@ ghost use Rattle.futures.specs.Poll.{IfReady, OnPending};
 ghost use Rattle.futures.specs.Task.{IsArmed, Keeps};
 ghost use Rattle.moka_kept.specs.declared.heard.ListenerEnd.{ListenerEnd};
 
+use crate::heard::ListenerEnd;
 use futures::task::{Context, Poll};
 use moka_hist::Cause;
-use moka_kept::ListenerEnd;
 
 /// A listener, which hears of each record that a write replaced or a call took out, by a notice
 /// that has the number of that call. All threads share it. It is called without the lock.

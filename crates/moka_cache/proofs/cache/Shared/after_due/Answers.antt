@@ -2,7 +2,7 @@
 use Rattle.std.proofs.Common.{Some, ap}
 use Rattle.moka_cache.specs.Hearing.{Ends, IsHeard, heard_in}
 use Rattle.moka_cache.proofs.Ending.{awaited_polled, ready_so}
-use Rattle.moka_cache.proofs.cache.Shared.after_ask.Goals as goal
+use Rattle.moka_cache.proofs.cache.Shared.after_due.Goals as goal
 
 pub returns-in-Some-clause-cause : goal.returns-in-Some-clause-cause
 returns-in-Some-clause-cause g c = λ pending. c.in-Some.ensures.cause (ap Some (c.go_with.ensures.same pending))
