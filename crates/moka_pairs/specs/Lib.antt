@@ -1,0 +1,4 @@
+pub mod Keys
+pub mod Pairs
+pub mod Segments
+pub mod Laws
