@@ -1,0 +1,107 @@
+-- A table that was just opened.
+use Rattle.std.proofs.Common.{◌≡◌, ℕ, ◌+◌, ◌*◌, ◌<◌, ◌≤◌, Bool, true, false, [], ◌∷◌, map, length, replicate, Some, None, zero, suc, inl, inr, refl, sym, ap, subst, ◌∙◌, arith, ltb, if◌then◌else◌}
+use Rattle.std.proofs.lemmas.List.{length-replicate}
+use Rattle.std.proofs.Math.Nat.{mul-le-mul_right, suc-mul}
+use Rattle.std.proofs.lemmas.Bool.{cases_lt, lt-ltb, ltb-true}
+use Rattle.std.specs.Int.{IsPowerOfTwo}
+use Rattle.std.specs.List.{slice_get, range_with_len}
+use Rattle.moka_words.specs.declared.words.Word.{Word}
+use Rattle.moka_words.specs.declared.words.Word.TheVariants.{Empty}
+use Rattle.moka_growth.specs.Sound.{IsSound, IsRoot}
+use Rattle.moka_growth.proofs.Making.{empty_is_root, one_is_sound}
+use Rattle.moka_history.specs.declared.note.Note.TheVariants.{Opened}
+use Rattle.moka_history.specs.States.{Door, Bucket, State, IsPlaced, after, first_keys, memory_of, unopened, word_in, words_in}
+
+no_item : {A : Type 0} {x : A} → None ≡ Some x → ⊥
+no_item e = cc
+
+one_item : {A : Type 0} {x y : A} → Some x ≡ Some y → x ≡ y
+one_item e = cc
+
+-- rows of one length end where the next one begins
+row_end : (i n length : ℕ) → i < n → i * length + length ≤ n * length
+row_end i n length below =
+    let one = suc-mul i length in
+    let more = mul-le-mul_right {m = suc i} {n = n} length (omega (arith, below)) in
+    omega (arith, one, more)
+
+range_at : (a n i k : ℕ) → slice_get (range_with_len a n) i ≡ Some k → (k ≡ a + i) × (i < n)
+range_at a zero i k e = absurd (no_item e)
+range_at a (suc n) zero k e = let same = one_item e in (omega (arith, same), omega arith)
+range_at a (suc n) (suc i) k e =
+    let rest = range_at (a + 1) n i k e in
+    let is = rest.0 in
+    let below = rest.1 in
+    (omega (arith, is), omega (arith, below))
+
+-- the key of a bucket's cell
+first_at : (segments length a i k : ℕ) → slice_get (first_keys segments length a) i ≡ Some k →
+    (r : ℕ) × (a ≡ suc r) × (r < segments) × (k ≡ 1 + r * length + i) × (i < length)
+first_at segments length zero i k e = absurd (no_item e)
+first_at segments length (suc r) i k e = by (ltb r segments) refl e
+  where
+    by : (b : Bool) → ltb r segments ≡ b → slice_get (if b then range_with_len (1 + r * length) length else []) i ≡ Some k →
+        (q : ℕ) × (suc r ≡ suc q) × (q < segments) × (k ≡ 1 + q * length + i) × (i < length)
+    by true is f = let at = range_at (1 + r * length) length i k f in (r, refl, ltb-true r segments is, at.0, at.1)
+    by false is f = absurd (no_item f)
+
+bucket_empty : (n k : ℕ) → k < n → word_in (replicate n (Bucket Empty)) k ≡ Empty
+bucket_empty zero k below = absurd (omega arith)
+bucket_empty (suc n) zero below = refl
+bucket_empty (suc n) (suc k) below = bucket_empty n k (omega arith)
+
+cell_empty : (n k : ℕ) → 1 ≤ k → k < 1 + n → word_in (Door ∷ replicate n (Bucket Empty)) k ≡ Empty
+cell_empty n zero some below = absurd (omega arith)
+cell_empty n (suc k) some below = bucket_empty n k (omega arith)
+
+all_empty : (f : ℕ → Word) (a n : ℕ) → ((k : ℕ) → a ≤ k → k < a + n → f k ≡ Empty) → map f (range_with_len a n) ≡ replicate n Empty
+all_empty f a zero h = refl
+all_empty f a (suc n) h = ap (λ w. w ∷ map f (range_with_len (a + 1) n)) (h a (omega arith) (omega arith))
+    ∙ ap (λ ws. Empty ∷ ws) (all_empty f (a + 1) n (λ k low high. h k (omega (arith, low)) (omega (arith, high))))
+
+module _ (K V : Type 0) {S : Type 0} (segments length_is : ℕ) (hasher : S) where
+  abbrev pub opened : State K V
+  opened = after {S = S} unopened (Opened segments length_is hasher)
+
+  many : length (opened.cells) ≡ suc (segments * length_is)
+  many = ap suc (length-replicate (segments * length_is) (Bucket Empty))
+
+  words_are : (i : ℕ) → i < segments → words_in opened (suc i) ≡ replicate length_is Empty
+  words_are i below =
+      let rows = row_end i segments length_is below in
+      ap (λ b. map (word_in opened.cells) (if b then range_with_len (1 + i * length_is) length_is else [])) (lt-ltb i segments below)
+      ∙ all_empty (word_in opened.cells) (1 + i * length_is) length_is
+      (λ k low high. cell_empty (segments * length_is) k (omega (arith, low)) (omega (arith, high, rows)))
+
+  -- rows are apart
+  apart : (r q i j : ℕ) → i < length_is → j < length_is → 1 + r * length_is + i ≡ 1 + q * length_is + j → r ≡ q
+  apart r q i j low high same = elim (cases_lt r q) [
+    | inl less ↦ absurd (let rows = row_end r q length_is less in omega (arith, rows, low, same))
+    | inr more ↦ elim (cases_lt q r) [
+      | inl less ↦ absurd (let rows = row_end q r length_is less in omega (arith, rows, high, same))
+      | inr equal ↦ omega (arith, more, equal)
+    ]
+  ]
+
+  placed : IsPlaced opened
+  placed = record {
+    within = λ a i k e.
+        let (r, is, below, at, inside) = first_at segments length_is a i k e in
+        let rows = row_end r segments length_is below in
+        let long = many in omega (arith, at, inside, rows, long);
+    one = λ a b i j k e f.
+        let (r, is, below, at, inside) = first_at segments length_is a i k e in
+        let (q, is_q, below_q, at_q, inside_q) = first_at segments length_is b j k f in
+        let same = apart r q i j inside inside_q (sym at ∙ at_q) in
+        let row : r * length_is ≡ q * length_is = ap (λ n. n * length_is) same in
+        (is ∙ (ap suc same ∙ sym is_q), omega (arith, at, at_q, row));
+  }
+
+  pub opened_is : (hash : ℕ → ℕ) (same : ℕ → ℕ → Bool) (mine : ℕ → Bool) (i : ℕ) → IsPowerOfTwo length_is → i < segments →
+      IsSound hash same mine (memory_of opened i) × IsPlaced opened
+  opened_is hash same mine i power below = (
+    one_is_sound hash same mine (memory_of opened i) (suc i) refl refl (omega (arith, below))
+        (subst (λ n. IsPowerOfTwo n) (sym (ap (λ ws. length ws) (words_are i below) ∙ length-replicate length_is Empty)) power)
+        (subst (λ ws. IsRoot hash same mine ws) (sym (words_are i below)) (empty_is_root hash same mine length_is)),
+    placed,
+  )

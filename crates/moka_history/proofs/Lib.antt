@@ -1,0 +1,4 @@
+pub mod Maps
+pub mod Folds
+pub mod Cells
+pub mod Beginning

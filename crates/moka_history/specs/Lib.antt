@@ -1,0 +1,4 @@
+pub mod Entries
+pub mod States
+pub mod Logs
+pub mod Laws

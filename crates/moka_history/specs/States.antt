@@ -1,0 +1,101 @@
+-- What the cells of a book hold after some notes, and the memory of each segment.
+use Rattle.std.specs.Prelude.{◌≡◌, ℕ, zero, suc, ◌+◌, ◌*◌, ◌==◌, ◌<◌, ltb, Bool, true, false, cond, List, [], ◌∷◌, ◌++◌, map, length, replicate, Option, None, Some, slice_index_or, slice_set, if◌then◌else◌}
+use Rattle.std.specs.List.{slice_get, range_with_len}
+use Rattle.moka_hist.specs.Finite.{put_at}
+use Rattle.moka_words.specs.declared.words.Word.{Word}
+use Rattle.moka_words.specs.declared.words.Word.TheVariants.{Unset, Empty}
+use Rattle.moka_words.specs.Effect.{Memory}
+use Rattle.moka_history.specs.declared.note.Note.{Note}
+use Rattle.moka_history.specs.declared.note.Note.TheVariants.{Opened, Announced, Changed}
+
+-- What a cell is: the one by which tickets are drawn, that of a bucket, with its word, or that of a
+-- ticket, which comes home with the change that is made on the ticket.
+pub data Owner : Type 0 where
+  Door : Owner
+  Bucket : (word : Word) → Owner
+  Ticket : (number : ℕ) (home : Bool) → Owner
+
+-- the number of segments, the last ticket, the pair of each number, the cells, by their keys, and for
+-- each array the keys of its cells
+pub record State (K V : Type 0) : Type 0 where
+  pub segments : ℕ
+  pub last : ℕ
+  pub pairs : ℕ → Option (K × V)
+  pub cells : List Owner
+  pub arrays : ℕ → List ℕ
+
+-- the word of a cell, if it is that of a bucket
+abbrev pub word_of : Owner → Word
+word_of Door = Unset
+word_of (Bucket w) = w
+word_of (Ticket n home) = Unset
+
+abbrev pub word_in : List Owner → (key : ℕ) → Word
+word_in cells key = word_of (slice_index_or cells key Door)
+
+-- the cell, after a change that was made on this ticket
+abbrev pub spent : (ticket : ℕ) → Owner → Owner
+spent ticket Door = Door
+spent ticket (Bucket w) = Bucket w
+spent ticket (Ticket n home) = Ticket n (cond (n == ticket) true home)
+
+-- the keys of an array's cells, as a table is opened: those of the first array come after the door,
+-- and those of each other one after the array before
+abbrev pub first_keys : (segments length array : ℕ) → List ℕ
+first_keys segments length zero = []
+first_keys segments length (suc i) =
+    if ltb i segments then range_with_len (1 + i * length) length else []
+
+module _ {K V : Type 0} where
+  -- before a table was opened
+  abbrev pub unopened : State K V
+  unopened =
+      record { segments = 0; last = 0; pairs = λ n. None; cells = []; arrays = λ a. [] }
+
+  -- the words of an array, and the key of one's cell
+  abbrev pub words_in : State K V → (array : ℕ) → List Word
+  words_in s array = map (word_in s.cells) (s.arrays array)
+
+  abbrev pub key_at : State K V → (array index : ℕ) → ℕ
+  key_at s array index = slice_index_or (s.arrays array) index 0
+
+  -- The memory of the segment of this number, from 0 on: its array is the next number, which is its
+  -- root. Tombstones and keys aren't counted.
+  abbrev pub memory_of : State K V → (segment : ℕ) → Memory
+  memory_of s segment =
+      record {
+        words = words_in s;
+        arrays = suc segment ∷ [];
+        rooted = 1;
+        fresh = suc s.segments;
+        tombstones = λ a. 0;
+        len = 0;
+      }
+
+  -- each cell that an array has is there, and no two places of arrays have one cell
+  pub record IsPlaced (s : State K V) : Type 0 where
+    pub within : (a i k : ℕ) → slice_get (s.arrays a) i ≡ Some k → k < length s.cells
+    pub one : (a b i j k : ℕ) → slice_get (s.arrays a) i ≡ Some k →
+        slice_get (s.arrays b) j ≡ Some k → (a ≡ b) × (i ≡ j)
+
+module _ {K V S : Type 0} where
+  -- the state after one more note
+  abbrev pub after : State K V → Note K V S → State K V
+  after s (Opened segments length hasher) =
+      record {
+        segments = segments;
+        last = segments;
+        pairs = λ n. None;
+        cells = Door ∷ replicate (segments * length) (Bucket Empty);
+        arrays = first_keys segments length;
+      }
+  after s (Announced ticket pair) =
+      record s {
+        last = ticket;
+        pairs = put_at s.pairs ticket pair;
+        cells = s.cells ++ Ticket ticket false ∷ [];
+      }
+  after s (Changed ticket array index to) =
+      record s {
+        cells = map (spent ticket) (slice_set s.cells (key_at s array index) (Bucket to));
+      }

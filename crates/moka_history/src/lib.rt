@@ -1,0 +1,18 @@
+//! The history of a table that threads share: what its log says, and what the words and the map are
+//! then.
+//!
+//! All callers write one log, of `Note`s. The definitions stand in `specs/`: what a change says of
+//! the map (`Entries`), what the cells of the book hold after some notes (`States`), and what a
+//! whole log gives (`Logs`). Each law is the contract of a function that does nothing. To call it
+//! is to cite the law.
+#![tactic(auto)]
+
+mod changing;
+mod note;
+mod recording;
+mod telling;
+
+pub use changing::{announced_keeps_words, changed_sets_word, opened_is_sound};
+pub use note::Note;
+pub use recording::{change_is_maps, legal_goes_on, legal_was_legal, map_goes_on};
+pub use telling::{entries_go_on, state_goes_on};

@@ -1,0 +1,27 @@
+//! What stands in the log.
+
+use moka_words::Word;
+
+/// What a caller writes into the log of its table. The log is ghost: no value of this type is made.
+#[derive(Drop)]
+pub enum Note<K, V, S> {
+    /// So many segments were made, each with one array of so many words, for this hash builder. The
+    /// arrays are numbered from 1, and these numbers are spent.
+    Opened {
+        segments: usize,
+        length: usize,
+        hasher: S,
+    },
+    /// The ticket was drawn. As a number of nodes it names this pair; one for a removal names none.
+    Announced {
+        ticket: u64,
+        pair: Option<(K, V)>,
+    },
+    /// On this ticket the word of the array was exchanged.
+    Changed {
+        ticket: u64,
+        array: u64,
+        index: usize,
+        to: Word,
+    },
+}
