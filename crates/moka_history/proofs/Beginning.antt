@@ -35,7 +35,7 @@ range_at a (suc n) (suc i) k e =
     (omega (arith, is), omega (arith, below))
 
 -- the key of a bucket's cell
-first_at : (segments length a i k : ℕ) → slice_get (first_keys segments length a) i ≡ Some k →
+pub first_at : (segments length a i k : ℕ) → slice_get (first_keys segments length a) i ≡ Some k →
     (r : ℕ) × (a ≡ suc r) × (r < segments) × (k ≡ 1 + r * length + i) × (i < length)
 first_at segments length zero i k e = absurd (no_item e)
 first_at segments length (suc r) i k e = by (ltb r segments) refl e
@@ -83,7 +83,7 @@ module _ (K V : Type 0) {S : Type 0} (segments length_is : ℕ) (hasher : S) whe
     ]
   ]
 
-  placed : IsPlaced opened
+  pub placed : IsPlaced opened
   placed = record {
     within = λ a i k e.
         let (r, is, below, at, inside) = first_at segments length_is a i k e in

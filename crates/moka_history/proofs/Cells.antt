@@ -58,7 +58,7 @@ words_set f g (k ∷ keys) zero w within here other = ap (λ v. v ∷ map g keys
 words_set f g (k ∷ keys) (suc i) w within here other = ap (λ v. v ∷ map g keys) (other 0 k (λ d. omega (arith, d)) refl)
     ∙ ap (λ ws. f k ∷ ws) (words_set f g keys i w (omega arith) here (λ j m d e. other (suc j) m (λ x. d (omega (arith, x))) e))
 
-key_there : (keys : List ℕ) (i : ℕ) → i < length keys → slice_get keys i ≡ Some (slice_index_or keys i 0)
+pub key_there : (keys : List ℕ) (i : ℕ) → i < length keys → slice_get keys i ≡ Some (slice_index_or keys i 0)
 key_there [] i within = absurd (omega arith)
 key_there (k ∷ keys) zero within = refl
 key_there (k ∷ keys) (suc i) within = key_there keys i (omega arith)

@@ -2,3 +2,12 @@ pub mod Maps
 pub mod Folds
 pub mod Cells
 pub mod Beginning
+pub mod Lists
+pub mod Numbers
+pub mod Owners
+pub mod Resting
+pub mod Announcing
+pub mod Exchanged
+pub mod Opening
+pub mod Fronts
+pub mod Stepping

@@ -48,7 +48,7 @@ module _ {K V : Type 0} (eq : K → K → Bool) where
       legal_front (put_key eq f x.key (pair_put x)) es more (λ m y there. legal (suc m) y there) n d at
 
 -- the pair of a number whose key is known
-named_pair : {K V : Type 0} (known : ℕ → Option K) (pairs : ℕ → Option (K × V)) → AreKeysOf known pairs → (n : ℕ) (key : K) → known n ≡ Some key →
+pub named_pair : {K V : Type 0} (known : ℕ → Option K) (pairs : ℕ → Option (K × V)) → AreKeysOf known pairs → (n : ℕ) (key : K) → known n ≡ Some key →
     (value : V) × (pairs n ≡ Some (key, value))
 named_pair {K} {V} known pairs are n key named = by (pairs n) refl (are n key named)
   where

@@ -1,4 +1,7 @@
 pub mod Entries
 pub mod States
 pub mod Logs
+pub mod Cells
+pub mod Rules
 pub mod Laws
+pub mod Keeping

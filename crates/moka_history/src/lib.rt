@@ -8,11 +8,21 @@
 #![tactic(auto)]
 
 mod changing;
+mod keeping;
+mod lasting;
 mod note;
 mod recording;
 mod telling;
 
 pub use changing::{announced_keeps_words, changed_sets_word, opened_is_sound};
+pub use keeping::{
+    announcing_keeps, cells_hold_words, changing_keeps, look_keeps, numbers_tell_words,
+    opening_is_kept,
+};
+pub use lasting::{
+    calls_still_fit, found_is_history, front_is_kept, front_lasts, tickets_are_spent_once,
+    words_name_pairs,
+};
 pub use note::Note;
 pub use recording::{change_is_maps, legal_goes_on, legal_was_legal, map_goes_on};
 pub use telling::{entries_go_on, state_goes_on};

@@ -1,0 +1,113 @@
+-- A ticket is drawn, and all stays good.
+use Rattle.std.proofs.Common.{◌≡◌, ℕ, ◌^◌, ◌<◌, ◌≤◌, ◌==◌, Bool, true, false, cond, List, [], ◌∷◌, ◌++◌, length, Option, Some, None, zero, suc, inl, inr, refl, sym, ap, subst, ◌∙◌, arith}
+use Rattle.std.proofs.lemmas.Bool.Decides.{eqb_tells}
+use Rattle.std.specs.Cmp.{IsEquivalence}
+use Rattle.std.specs.List.{slice_get}
+use Rattle.moka_growth.specs.Maps.{IsElsewhere}
+use Rattle.moka_pairs.specs.Keys.{Agrees, Respects}
+use Rattle.moka_history.specs.declared.note.Note.{Note}
+use Rattle.moka_history.specs.declared.note.Note.TheVariants.{Announced}
+use Rattle.moka_history.specs.Entries.{Entry}
+use Rattle.moka_history.specs.States.{Door, Bucket, Ticket, State, IsPlaced, after, memory_of, words_in}
+use Rattle.moka_history.specs.Rules.{IsOwned, IsDrawn, IsGood, Lasts}
+use Rattle.moka_history.proofs.Cells.{announced_keeps}
+use Rattle.moka_history.proofs.Lists.{no_item, one_item, front_get, more_get}
+use Rattle.moka_history.proofs.Resting.{rests_sound, rests_later, rests_map}
+
+door_not_ticket : {n : ℕ} {b : Bool} → Door ≡ Ticket n b → ⊥
+door_not_ticket e = absurd (cc (e))
+
+ticket_number : {n m : ℕ} {b c : Bool} → Ticket n b ≡ Ticket m c → n ≡ m
+ticket_number e = cc (e)
+
+ticket_home : {n m : ℕ} {b c : Bool} → Ticket n b ≡ Ticket m c → b ≡ c
+ticket_home e = cc (e)
+
+module _ {K V : Type 0} (S : Type 0) (eq : K → K → Bool) (laws : IsEquivalence eq) (hash place : K → ℕ) (respects : Respects eq hash)
+    (s : State K V) (es : List (Entry K V)) (good : IsGood eq hash place s es) (ticket : ℕ) (pair : Option (K × V)) (is : ticket ≡ suc s.last)
+    (small : ticket ≤ 2 ^ 60) where
+  abbrev pub drawn_state : State K V
+  drawn_state = after {S = S} s (Announced ticket pair)
+
+  owned : IsOwned s
+  owned = good.owned
+
+  drawn : IsDrawn s es
+  drawn = good.drawn
+
+  words : ((a : ℕ) → words_in drawn_state a ≡ words_in s a) × IsPlaced drawn_state
+  words = announced_keeps S s owned.places ticket pair (Announced ticket pair) refl
+
+  grows : Agrees drawn_state.pairs s.pairs
+  grows n a e = elim (eqb_tells ticket n) [
+    | inl p ↦ absurd (no_item (sym (drawn.pairs n (omega (arith, is, p.1))) ∙ e))
+    | inr p ↦ ap (λ b. cond b pair (s.pairs n)) p.0 ∙ e
+  ]
+
+  elsewhere : (i : ℕ) → IsElsewhere (memory_of s i) (memory_of drawn_state i)
+  elsewhere i = record { words = λ p a e. words.0 a; arrays = refl; rooted = refl; fresh = omega arith }
+
+  later_owned : IsOwned drawn_state
+  later_owned = record {
+    door = λ k. (
+      λ at. elim (more_get s.cells (Ticket ticket false) k Door at) [
+        | inl old ↦ (owned.door k).0 old
+        | inr new ↦ absurd (door_not_ticket new.1)
+      ],
+      λ e. front_get s.cells (Ticket ticket false ∷ []) k Door ((owned.door k).1 e),
+    );
+    buckets = λ a i k e. (let (w, at) = owned.buckets a i k e in (w, front_get s.cells (Ticket ticket false ∷ []) k (Bucket w) at));
+    places = words.1;
+    tickets = λ j k n b c e f. elim (more_get s.cells (Ticket ticket false) j (Ticket n b) e) [
+      | inl old ↦ elim (more_get s.cells (Ticket ticket false) k (Ticket n c) f) [
+        | inl old_yet ↦ owned.tickets j k n b c old old_yet
+        | inr new ↦ absurd (past n j b old (ticket_number new.1))
+      ]
+      | inr new ↦ elim (more_get s.cells (Ticket ticket false) k (Ticket n c) f) [
+        | inl old ↦ absurd (past n k c old (ticket_number new.1))
+        | inr new_yet ↦ new.0 ∙ sym new_yet.0
+      ]
+    ];
+  }
+    where
+      past : (n k : ℕ) (b : Bool) → slice_get s.cells k ≡ Some (Ticket n b) → n ≡ ticket → ⊥
+      past n k b at same = let low = (drawn.cells k n b at).0 in absurd (omega (arith, low, same, is))
+
+  later_drawn : IsDrawn drawn_state es
+  later_drawn = record {
+    first = let low = drawn.first in omega (arith, low, is);
+    last = small;
+    cells = λ k n home e. elim (more_get s.cells (Ticket ticket false) k (Ticket n home) e) [
+      | inl old ↦ (let (low, made) = drawn.cells k n home old in (omega (arith, low, is), made))
+      | inr new ↦ (let same = ticket_number new.1 in (
+        omega (arith, same),
+        drawn.entries n (omega (arith, same, is)) ∙ sym (ap (λ b. cond b 1 0) (ticket_home new.1)),
+      ))
+    ];
+    pairs = λ n high. elim (eqb_tells ticket n) [
+      | inl p ↦ absurd (let same = p.1 in omega (arith, same, high))
+      | inr p ↦ ap (λ b. cond b pair (s.pairs n)) p.0 ∙ drawn.pairs n (omega (arith, is, high))
+    ];
+    entries = λ n high. drawn.entries n (omega (arith, is, high));
+    once = drawn.once;
+  }
+
+  pub announced_good : IsGood eq hash place drawn_state es
+  announced_good = record {
+    owned = later_owned;
+    drawn = later_drawn;
+    sound = λ i below. rests_sound eq laws hash place respects s drawn_state grows i (good.sound i below) (elsewhere i);
+    legal = good.legal;
+    map_is = λ q below. good.map_is q below
+        ∙ sym (rests_map eq laws hash place respects s drawn_state grows (place q) (good.sound (place q) below) (elsewhere (place q)) q);
+  }
+
+  pub announced_lasts : Lasts eq place s drawn_state
+  announced_lasts = record {
+    segments = refl;
+    last = omega (arith, is);
+    arrays = λ a i k e. e;
+    tickets = λ k n b e. (b, front_get s.cells (Ticket ticket false ∷ []) k (Ticket n b) e, λ h. h);
+    pairs = grows;
+    later = λ i below. rests_later eq laws hash place respects s drawn_state grows i (good.sound i below) (elsewhere i);
+  }

@@ -1,0 +1,149 @@
+-- The book of a table that was just opened keeps the rule.
+use Rattle.std.proofs.Common.{◌≡◌, ℕ, ◌+◌, ◌-◌, ◌*◌, ◌^◌, ◌<◌, ◌≤◌, Bool, true, false, List, [], ◌∷◌, ◌++◌, map, length, replicate, Option, Some, None, zero, suc, inl, inr, refl, sym, ap, subst, ◌∙◌, arith, length-append}
+use Rattle.std.specs.Int.{IsPowerOfTwo}
+use Rattle.std.specs.List.{slice_get, find}
+use mathlib.Core.List.{IsPrefix}
+use Rattle.logbook.specs.Pages.{Cell}
+use Rattle.moka_words.specs.declared.words.Word.{Word}
+use Rattle.moka_words.specs.declared.words.Word.TheVariants.{Empty}
+use Rattle.moka_growth.specs.Maps.{present_nodes}
+use Rattle.moka_pairs.specs.Keys.{hash_by, same_by, mine_by, own_by}
+use Rattle.moka_pairs.specs.Pairs.{pair_at}
+use Rattle.moka_history.specs.declared.note.Note.{Note}
+use Rattle.moka_history.specs.declared.note.Note.TheVariants.{Opened}
+use Rattle.moka_history.specs.States.{Owner, Door, Bucket, Ticket, State, memory_of}
+use Rattle.moka_history.specs.Logs.{entries_of, state_of}
+use Rattle.moka_history.specs.Cells.{cell_of, cells_of}
+use Rattle.moka_history.specs.Rules.{keys_of, pair_in, IsOwned, IsDrawn, IsGood, Lasts, IsFront, IsKept, Holds}
+use Rattle.moka_history.specs.Keeping.{IsDivided}
+use Rattle.moka_history.proofs.Beginning.{first_at, opened_is, placed}
+use Rattle.moka_history.proofs.Lists.{no_item, one_item, prefix_more, prefix_through}
+use Rattle.moka_history.proofs.Resting.{lasts_same}
+
+door_not_bucket : {w : Word} → Bucket w ≡ Door → ⊥
+door_not_bucket e = absurd (cc (e))
+
+bucket_not_ticket : {w : Word} {n : ℕ} {b : Bool} → Bucket w ≡ Ticket n b → ⊥
+bucket_not_ticket e = absurd (cc (e))
+
+door_not_ticket : {n : ℕ} {b : Bool} → Door ≡ Ticket n b → ⊥
+door_not_ticket e = absurd (cc (e))
+
+-- the cells of buckets alone
+alike_at : {A : Type 0} (n k : ℕ) (x y : A) → slice_get (replicate n x) k ≡ Some y → x ≡ y
+alike_at zero k x y e = absurd (no_item e)
+alike_at (suc n) zero x y e = one_item e
+alike_at (suc n) (suc k) x y e = alike_at n k x y e
+
+alike_there : {A : Type 0} (n k : ℕ) (x : A) → k < n → slice_get (replicate n x) k ≡ Some x
+alike_there zero k x below = absurd (omega arith)
+alike_there (suc n) zero x below = refl
+alike_there (suc n) (suc k) x below = alike_there n k x (omega arith)
+
+alike_length : {A : Type 0} (n : ℕ) (x : A) → length (replicate n x) ≡ n
+alike_length zero x = refl
+alike_length (suc n) x = ap suc (alike_length n x)
+
+empty_cells : (n d : ℕ) → map (cell_of d) (replicate n (Bucket Empty)) ≡ replicate n (0, true)
+empty_cells zero d = refl
+empty_cells (suc n) d = ap (λ cs. (0, true) ∷ cs) (empty_cells n d)
+
+no_pair : {K V : Type 0} (o : Option ℕ) → None ≡ pair_at {K = K} {V = V} (λ n. None) o
+no_pair None = refl
+no_pair (Some n) = refl
+
+only_front : {A : Type 0} (x : A) (front : List A) → 0 < length front → IsPrefix front (x ∷ []) → front ≡ x ∷ []
+only_front x front some begins = elim (prefix_more front [] x begins) [
+  | inl p ↦ absurd (let none = ap (λ l. length l) p.1 in let long = length-append front p.0 in omega (arith, some, none, long))
+  | inr e ↦ e
+]
+
+module _ {K : Type 0} (V : Type 0) {S : Type 0} (eq : K → K → Bool) (hash : S → K → ℕ) (place : S → ℕ → K → ℕ) (divided : IsDivided eq hash place)
+    (segments size : ℕ) (hasher : S) (few : segments ≤ 2 ^ 60) (power : IsPowerOfTwo size) where
+  abbrev first : List (Note K V S)
+  first = Opened segments size hasher ∷ []
+
+  abbrev opened : State K V
+  opened = state_of first
+
+  abbrev Place : K → ℕ
+  Place = place hasher segments
+
+  bucket_at_suc : (k : ℕ) (o : Owner) → slice_get opened.cells (suc k) ≡ Some o → Bucket Empty ≡ o
+  bucket_at_suc k o at = alike_at (segments * size) k (Bucket Empty) o at
+
+  only_door : (k : ℕ) → slice_get opened.cells k ≡ Some Door → k ≡ 0
+  only_door zero at = refl
+  only_door (suc k) at = absurd (door_not_bucket (bucket_at_suc k Door at))
+
+  no_ticket : (k n : ℕ) (b : Bool) → slice_get opened.cells k ≡ Some (Ticket n b) → ⊥
+  no_ticket zero n b at = door_not_ticket (one_item at)
+  no_ticket (suc k) n b at = bucket_not_ticket (bucket_at_suc k (Ticket n b) at)
+
+  bucket_there : (k : ℕ) → 1 ≤ k → k < length opened.cells → slice_get opened.cells k ≡ Some (Bucket Empty)
+  bucket_there zero low below = absurd (omega arith)
+  bucket_there (suc k) low below = alike_there (segments * size) k (Bucket Empty)
+      (let long = alike_length (segments * size) (Bucket Empty) in omega (arith, below, long))
+
+  owned : IsOwned opened
+  owned = record {
+    door = λ k. (only_door k, λ e. subst (λ j. slice_get opened.cells j ≡ Some Door) (sym e) refl);
+    buckets = λ a i k e.
+        let (r, is, below, at, inside) = first_at segments size a i k e in
+        (Empty, bucket_there k (omega (arith, at)) ((placed K V segments size hasher).within a i k e));
+    places = placed K V segments size hasher;
+    tickets = λ j k n b c e f. absurd (no_ticket j n b e);
+  }
+
+  drawn : IsDrawn opened []
+  drawn = record {
+    first = omega arith;
+    last = few;
+    cells = λ k n home at. absurd (no_ticket k n home at);
+    pairs = λ n high. refl;
+    entries = λ n high. refl;
+    once = λ n. omega arith;
+  }
+
+  good : IsGood eq (hash hasher) Place opened []
+  good = record {
+    owned = owned;
+    drawn = drawn;
+    sound = λ i below keys agrees. (opened_is K V segments size hasher (hash_by (hash hasher) keys) (same_by eq keys) (mine_by keys) i power below).0;
+    legal = λ n e at. absurd (no_item at);
+    map_is = λ q below. no_pair (find (own_by eq (keys_of Place opened (Place q)) q) (present_nodes (memory_of opened (Place q))));
+  }
+
+  kept : IsKept eq hash place first
+  kept = record {
+    segments = segments;
+    size = size;
+    hasher = hasher;
+    opened = ([], refl);
+    good = λ front is. subst (λ l. IsGood eq (hash hasher) Place (state_of l) (entries_of l)) (sym (alone front is)) good;
+    lasts = λ front next is begins.
+        let front_is = alone front (record { some = is.some; begins = prefix_through front next first is.begins begins }) in
+        let next_is = alone next (record { some = longer front next is; begins = begins }) in
+        subst (λ l. Lasts eq Place (state_of front) (state_of l)) (front_is ∙ sym next_is)
+        (lasts_same eq divided.laws (hash hasher) Place (divided.hashed hasher) (state_of front));
+  }
+    where
+      alone : (front : List (Note K V S)) → IsFront front first → front ≡ first
+      alone front is = only_front (Opened segments size hasher) front is.some is.begins
+
+      longer : (front next : List (Note K V S)) → IsFront front next → 0 < length next
+      longer front next is =
+          let all = ap (λ l. length l) is.begins.1 in
+          let long = length-append front is.begins.0 in
+          let some = is.some in
+          omega (arith, all, long, some)
+
+  pub opening_holds : Holds eq hash place (replicate (suc (segments * size)) (0, true)) first
+  opening_holds = (
+    ap (λ cs. (0, true) ∷ cs) (sym (empty_cells (segments * size) (segments - segments)))
+        ∙ ap (λ d. (d, true) ∷ map (cell_of (segments - segments)) (replicate (segments * size) (Bucket Empty))) none,
+    kept,
+  )
+    where
+      none : 0 ≡ segments - segments
+      none = omega arith

@@ -1,0 +1,116 @@
+-- Segments whose words a step leaves, and what lasts through steps.
+use Rattle.std.proofs.Common.{◌≡◌, ℕ, ◌<◌, ◌==◌, Bool, List, [], ◌∷◌, ◌++◌, Option, Some, inl, inr, refl, sym, ap, subst, ◌∙◌, arith}
+use Rattle.std.specs.Cmp.{IsEquivalence}
+use Rattle.std.specs.List.{slice_get}
+use mathlib.Core.List.{IsPrefix}
+use Rattle.moka_words.specs.Effect.{Memory, LaterMemory}
+use Rattle.moka_growth.specs.Sound.{IsSound}
+use Rattle.moka_growth.specs.Maps.{KeepsMap, IsElsewhere}
+use Rattle.moka_growth.proofs.Elsewhere.{elsewhere_keeps_sound}
+use Rattle.moka_growth.proofs.Lasts.{later_memory_goes_on}
+use Rattle.moka_pairs.specs.Keys.{Agrees, Respects, hash_by, same_by, mine_by}
+use Rattle.moka_pairs.specs.Segments.{SoundAll, LaterAll}
+use Rattle.moka_pairs.proofs.Names.{agrees_now, agrees_through, names_keys}
+use Rattle.moka_pairs.proofs.Divided.{segment_are, segment_grows}
+use Rattle.moka_pairs.proofs.Grown.{map_grown}
+use Rattle.moka_pairs.proofs.Mapped.{map_kept}
+use Rattle.moka_pairs.proofs.Steps.{later_same}
+use Rattle.moka_history.specs.declared.note.Note.{Note}
+use Rattle.moka_history.specs.States.{State, memory_of}
+use Rattle.moka_history.specs.Logs.{entries_of, state_of}
+use Rattle.moka_history.specs.Rules.{keys_of, pair_in, IsGood, Lasts, IsFront, IsKept}
+use Rattle.moka_history.specs.Keeping.{IsDivided}
+use Rattle.moka_history.proofs.Lists.{prefix_more, prefix_self}
+
+module _ {K V : Type 0} (eq : K → K → Bool) (laws : IsEquivalence eq) (hash place : K → ℕ) (respects : Respects eq hash) where
+  -- a segment that a step leaves stays sound, and its map as it was, while more numbers get pairs
+  module _ (s new : State K V) (grows : Agrees new.pairs s.pairs) (i : ℕ) (sound : SoundAll eq hash (keys_of place s i) (memory_of s i))
+      (elsewhere : IsElsewhere (memory_of s i) (memory_of new i)) where
+    more : Agrees (keys_of place new i) (keys_of place s i)
+    more = segment_grows (λ key. place key == i) new.pairs s.pairs grows
+
+    rests : (keys : ℕ → Option K) → Agrees keys (keys_of place new i) →
+        IsSound (hash_by hash keys) (same_by eq keys) (mine_by keys) (memory_of new i)
+        × LaterMemory (same_by eq keys) (memory_of s i) (memory_of new i) × KeepsMap (memory_of s i) (memory_of new i)
+    rests keys agrees = elsewhere_keeps_sound (hash_by hash keys) (same_by eq keys) (mine_by keys) (memory_of s i) (memory_of new i)
+        (names_keys eq laws hash respects keys) (sound keys (agrees_through keys (keys_of place new i) (keys_of place s i) agrees more)) elsewhere
+
+    pub rests_sound : SoundAll eq hash (keys_of place new i) (memory_of new i)
+    rests_sound keys agrees = (rests keys agrees).0
+
+    pub rests_later : LaterAll eq (keys_of place new i) (memory_of s i) (memory_of new i)
+    rests_later keys agrees = (rests keys agrees).1
+
+    pub rests_map : (q : K) → pair_in eq place new i q ≡ pair_in eq place s i q
+    rests_map q = map_kept eq laws hash respects (keys_of place new i) new.pairs (memory_of s i) (memory_of new i) rests_sound
+        (rests (keys_of place new i) (agrees_now (keys_of place new i))).2 q
+        ∙ map_grown eq laws hash respects (keys_of place s i) s.pairs (segment_are (λ key. place key == i) s.pairs) (keys_of place new i) new.pairs more grows
+        (memory_of s i) sound q
+
+  -- what stays true stays so
+  pub lasts_same : (s : State K V) → Lasts eq place s s
+  lasts_same s = record {
+    segments = refl;
+    last = omega arith;
+    arrays = λ a i k e. e;
+    tickets = λ k n b e. (b, e, λ h. h);
+    pairs = agrees_now s.pairs;
+    later = λ i below. later_same eq laws hash respects (keys_of place s i) (memory_of s i);
+  }
+
+  pub lasts_through : (a b c : State K V) → Lasts eq place a b → Lasts eq place b c → Lasts eq place a c
+  lasts_through a b c first then = record {
+    segments = then.segments ∙ first.segments;
+    last = let low = first.last in let high = then.last in omega (arith, low, high);
+    arrays = λ n i k e. then.arrays n i k (first.arrays n i k e);
+    tickets = λ k n x e.
+        let (y, at, home) = first.tickets k n x e in
+        let (z, there, home_yet) = then.tickets k n y at in
+        (z, there, λ h. home_yet (home h));
+    pairs = agrees_through c.pairs b.pairs a.pairs then.pairs first.pairs;
+    later = λ i below keys agrees. later_memory_goes_on (hash_by hash keys) (same_by eq keys) (memory_of a i) (memory_of b i) (memory_of c i)
+        (names_keys eq laws hash respects keys)
+        (first.later i below keys (agrees_through keys (keys_of place c i) (keys_of place b i) agrees
+        (segment_grows (λ key. place key == i) c.pairs b.pairs then.pairs)))
+        (then.later i (subst (λ n. i < n) (sym first.segments) below) keys agrees);
+  }
+
+-- a kept log stays kept with one note more, after which all is good and has lasted
+module _ {K V S : Type 0} (eq : K → K → Bool) (hash : S → K → ℕ) (place : S → ℕ → K → ℕ) (divided : IsDivided eq hash place)
+    (log : List (Note K V S)) (note : Note K V S) (kept : IsKept eq hash place log) where
+  abbrev pub Place : K → ℕ
+  Place = place kept.hasher kept.segments
+
+  abbrev pub Longer : List (Note K V S)
+  Longer = log ++ note ∷ []
+
+  module _ (good : IsGood eq (hash kept.hasher) Place (state_of Longer) (entries_of Longer)) (lasts : Lasts eq Place (state_of log) (state_of Longer)) where
+    same : (s : State K V) → Lasts eq Place s s
+    same = lasts_same eq divided.laws (hash kept.hasher) Place (divided.hashed kept.hasher)
+
+    through : (front : List (Note K V S)) → IsFront front log → Lasts eq Place (state_of front) (state_of Longer)
+    through front is = lasts_through eq divided.laws (hash kept.hasher) Place (divided.hashed kept.hasher) (state_of front) (state_of log) (state_of Longer)
+        (kept.lasts front log is (prefix_self log)) lasts
+
+    to_longer : (front : List (Note K V S)) → IsFront front Longer → Lasts eq Place (state_of front) (state_of Longer)
+    to_longer front is = elim (prefix_more front log note is.begins) [
+      | inl old ↦ through front (record { some = is.some; begins = old })
+      | inr e ↦ subst (λ l. Lasts eq Place (state_of front) (state_of l)) e (same (state_of front))
+    ]
+
+    pub longer_kept : IsKept eq hash place Longer
+    longer_kept = record {
+      segments = kept.segments;
+      size = kept.size;
+      hasher = kept.hasher;
+      opened = (kept.opened.0 ++ note ∷ [], ap (λ l. l ++ note ∷ []) kept.opened.1);
+      good = λ front is. elim (prefix_more front log note is.begins) [
+        | inl old ↦ kept.good front (record { some = is.some; begins = old })
+        | inr e ↦ subst (λ l. IsGood eq (hash kept.hasher) Place (state_of l) (entries_of l)) (sym e) good
+      ];
+      lasts = λ front next is begins. elim (prefix_more next log note begins) [
+        | inl old ↦ kept.lasts front next is old
+        | inr e ↦ subst (λ l. Lasts eq Place (state_of front) (state_of l)) (sym e)
+            (to_longer front (record { some = is.some; begins = subst (λ l. IsPrefix front l) e is.begins }))
+      ];
+    }

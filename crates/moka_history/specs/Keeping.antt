@@ -1,0 +1,167 @@
+-- What holds of the rule: laws of whole steps, of fronts, and of what a caller finds after one.
+use Rattle.std.specs.Prelude.{◌≡◌, ℕ, suc, ◌*◌, ◌^◌, ◌<◌, ◌≤◌, Bool, true, false, cond, List, [], ◌∷◌, ◌++◌, length, replicate, Option, Some, slice_set}
+use Rattle.std.specs.Cmp.{IsEquivalence}
+use Rattle.std.specs.Int.{IsPowerOfTwo}
+use Rattle.std.specs.List.{slice_get}
+use Rattle.std.specs.Option.{option_map}
+use mathlib.Core.List.{IsPrefix}
+use Rattle.logbook.specs.Pages.{Cell, cell}
+use Rattle.moka_words.specs.declared.words.Word.{Word}
+use Rattle.moka_words.specs.Words.{node_of, word_at}
+use Rattle.moka_words.specs.Arrays.{bucket_at}
+use Rattle.moka_growth.specs.Calls.{Call, Change}
+use Rattle.moka_growth.specs.Fits.{Rests}
+use Rattle.moka_growth.specs.Maps.{Finds}
+use Rattle.moka_pairs.specs.Keys.{Respects, own_by}
+use Rattle.moka_pairs.specs.Pairs.{pair_at}
+use Rattle.moka_pairs.specs.Segments.{FitsAll, IsHashed}
+use Rattle.moka_history.specs.declared.note.Note.{Note}
+use Rattle.moka_history.specs.declared.note.Note.TheVariants.{Opened, Announced, Changed}
+use Rattle.moka_history.specs.Entries.{map_after}
+use Rattle.moka_history.specs.States.{Ticket, State, key_at, memory_of, words_in}
+use Rattle.moka_history.specs.Logs.{entries_of, entry_with, state_of}
+use Rattle.moka_history.specs.Cells.{number_of, drawn}
+use Rattle.moka_history.specs.Rules.{made_on, keys_of, Lasts, IsFront, IsOpenedFor, IsKept, Holds}
+
+-- equal keys have one hash and one segment, whichever the hash builder is
+pub record IsDivided {K S : Type 0} (eq : K → K → Bool) (hash : S → K → ℕ)
+    (place : S → ℕ → K → ℕ) : Type 0 where
+  pub laws : IsEquivalence eq
+  pub hashed : (s : S) → Respects eq (hash s)
+  pub placed : (s : S) (segments : ℕ) → Respects eq (place s segments)
+
+-- the book of a table that was just opened keeps the rule
+abbrev pub OpeningIsKept : (K V S : Type 0) → Type 0
+OpeningIsKept K V S =
+    (eq : K → K → Bool) (hash : S → K → ℕ) (place : S → ℕ → K → ℕ) → IsDivided eq hash place →
+    (segments size : ℕ) (hasher : S) → segments ≤ 2 ^ 60 → IsPowerOfTwo size →
+    Holds {V = V} eq hash place (replicate (suc (segments * size)) (0, true))
+    (Opened segments size hasher ∷ [])
+
+-- each front of a kept log is kept, and was opened as the log was
+abbrev pub FrontIsKept : (K V S : Type 0) → Type 0
+FrontIsKept K V S =
+    (eq : K → K → Bool) (hash : S → K → ℕ) (place : S → ℕ → K → ℕ) →
+    (log front : List (Note K V S)) → (kept : IsKept eq hash place log) → IsFront front log →
+    IsKept eq hash place front × IsOpenedFor kept.segments kept.size kept.hasher front
+
+-- a step that leaves a word of the book keeps the rule
+abbrev pub LookKeeps : (K V S : Type 0) → Type 0
+LookKeeps K V S =
+    (eq : K → K → Bool) (hash : S → K → ℕ) (place : S → ℕ → K → ℕ) →
+    (cells : List Cell) (log : List (Note K V S)) → Holds eq hash place cells log →
+    (k : ℕ) → k < length cells → (cell cells k).1 ≡ true →
+    Holds eq hash place (slice_set cells k ((cell cells k).0, true)) log
+
+-- the cells of an array's places hold its words, at home
+abbrev pub CellsHoldWords : (K V S : Type 0) → Type 0
+CellsHoldWords K V S =
+    (eq : K → K → Bool) (hash : S → K → ℕ) (place : S → ℕ → K → ℕ) →
+    (cells : List Cell) (log : List (Note K V S)) → Holds eq hash place cells log →
+    let s : State K V = state_of log in
+    (cell cells 0 ≡ (drawn s, true)) × (0 < length cells) ×
+    ((array index k : ℕ) → slice_get (s.arrays array) index ≡ Some k →
+    (k < length cells) × (cell cells k ≡ (number_of (word_at (words_in s array) index), true)))
+
+-- two words of small nodes that have one number are one
+abbrev pub IsSmall : Word → Type 0
+IsSmall w = (n : ℕ) → node_of w ≡ Some n → n ≤ 2 ^ 60
+
+abbrev pub NumbersTellWords : Type 0
+NumbersTellWords =
+    (v w : Word) → IsSmall v → IsSmall w → number_of v ≡ number_of w → v ≡ w
+
+-- a word of a segment's array names a pair of the segment, and its number is small
+abbrev pub WordsNamePairs : (K V S : Type 0) → Type 0
+WordsNamePairs K V S =
+    (eq : K → K → Bool) (hash : S → K → ℕ) (place : S → ℕ → K → ℕ) →
+    (log : List (Note K V S)) → (kept : IsKept eq hash place log) → (i index n : ℕ) →
+    i < kept.segments → node_of (word_at (words_in (state_of log) (suc i)) index) ≡ Some n →
+    (p : K × V) × ((state_of log).pairs n ≡ Some p) × (place kept.hasher kept.segments p.0 ≡ i)
+    × (n ≤ 2 ^ 60)
+
+-- A step that draws the next ticket keeps the rule: the door counts one ticket more, and the new
+-- ticket has the new cell.
+abbrev pub AnnouncingKeeps : (K V S : Type 0) → Type 0
+AnnouncingKeeps K V S =
+    (eq : K → K → Bool) (hash : S → K → ℕ) (place : S → ℕ → K → ℕ) → IsDivided eq hash place →
+    (cells : List Cell) (log : List (Note K V S)) → Holds eq hash place cells log →
+    (ticket : ℕ) (pair : Option (K × V)) → ticket ≡ suc (state_of log).last → ticket ≤ 2 ^ 60 →
+    Holds eq hash place
+    (slice_set cells 0 (suc (drawn (state_of log)), true) ++ (0, false) ∷ [])
+    (log ++ Announced ticket pair ∷ [])
+    × (slice_get (state_of (log ++ Announced ticket pair ∷ [])).cells (length cells)
+    ≡ Some (Ticket ticket false))
+
+-- A call of a key, which fits after this state, comes to the exchange of a word that is still the one
+-- that it found.
+pub record Exchanges {K V : Type 0} (eq : K → K → Bool) (hash place : K → ℕ) (s : State K V)
+    (key : K) (c : Call) (array size passed : ℕ) (from to : Word) : Type 0 where
+  pub within : place key < s.segments
+  pub hashed : c.hash ≡ hash key
+  pub fits : FitsAll eq hash (keys_of place s (place key)) (Some key) (memory_of s (place key)) c
+  pub comes : c.point ≡ Change array size passed from to
+  pub found : word_at (words_in s array) (bucket_at size c.hash passed) ≡ from
+
+-- The exchange of the word with a ticket, whose cell wasn't home, keeps the rule: the word stands in
+-- its bucket, and the ticket's cell is home. It adds one entry, on this ticket, of the key of the node
+-- that the new word names, which is equal to the call's.
+abbrev pub ChangingKeeps : (K V S : Type 0) → Type 0
+ChangingKeeps K V S =
+    (eq : K → K → Bool) (hash : S → K → ℕ) (place : S → ℕ → K → ℕ) → IsDivided eq hash place →
+    (cells : List Cell) (log : List (Note K V S)) → (holds : Holds eq hash place cells log) →
+    (key : K) (c : Call) (array size passed : ℕ) (from to : Word) →
+    Exchanges eq (hash holds.1.hasher) (place holds.1.hasher holds.1.segments) (state_of log)
+    key c array size passed from to →
+    (own ticket : ℕ) → slice_get (state_of log).cells own ≡ Some (Ticket ticket false) →
+    let index : ℕ = bucket_at size c.hash passed in
+    let more : List (Note K V S) = log ++ Changed ticket array index to ∷ [] in
+    Holds eq hash place
+    (slice_set (slice_set cells (key_at (state_of log) array index) (number_of to, true))
+    own (0, true)) more
+    × ((k : K) × (option_map (λ p. p.0) (pair_at (state_of log).pairs (node_of to)) ≡ Some k)
+    × (eq key k ≡ true)
+    × (entries_of more ≡ entries_of log ++ entry_with (state_of log).pairs ticket from to k ∷ []))
+
+-- a call that fitted after a front fits after the log
+abbrev pub CallsStillFit : (K V S : Type 0) → Type 0
+CallsStillFit K V S =
+    (eq : K → K → Bool) (hash : S → K → ℕ) (place : S → ℕ → K → ℕ) → IsDivided eq hash place →
+    (log front : List (Note K V S)) → (kept : IsKept eq hash place log) → IsFront front log →
+    (i : ℕ) → i < kept.segments → (key : Option K) (c : Call) →
+    IsHashed (hash kept.hasher) key c → Rests c.point →
+    let p : K → ℕ = place kept.hasher kept.segments in
+    FitsAll eq (hash kept.hasher) (keys_of p (state_of front) i) key
+    (memory_of (state_of front) i) c →
+    FitsAll eq (hash kept.hasher) (keys_of p (state_of log) i) key (memory_of (state_of log) i) c
+
+-- what a call found under its key is what the map after the entries has there
+abbrev pub FoundIsHistory : (K V S : Type 0) → Type 0
+FoundIsHistory K V S =
+    (eq : K → K → Bool) (hash : S → K → ℕ) (place : S → ℕ → K → ℕ) → IsDivided eq hash place →
+    (log : List (Note K V S)) → (kept : IsKept eq hash place log) → (key : K) (found : Option ℕ) →
+    let p : K → ℕ = place kept.hasher kept.segments in
+    p key < kept.segments →
+    Finds (own_by eq (keys_of p (state_of log) (p key)) key) (memory_of (state_of log) (p key))
+    found →
+    map_after eq (entries_of log) key ≡ pair_at (state_of log).pairs found
+
+-- what a front says lasts: its entries begin those of the log, its numbers have their pairs, its
+-- arrays their cells, and its tickets theirs
+abbrev pub FrontLasts : (K V S : Type 0) → Type 0
+FrontLasts K V S =
+    (eq : K → K → Bool) (hash : S → K → ℕ) (place : S → ℕ → K → ℕ) →
+    (log front : List (Note K V S)) → (kept : IsKept eq hash place log) → IsFront front log →
+    IsPrefix (entries_of front) (entries_of log)
+    × Lasts eq (place kept.hasher kept.segments) (state_of front) (state_of log)
+
+-- no ticket has two entries; a ticket that had its entry in a front has it and no other in the log
+abbrev pub TicketsAreSpentOnce : (K V S : Type 0) → Type 0
+TicketsAreSpentOnce K V S =
+    (eq : K → K → Bool) (hash : S → K → ℕ) (place : S → ℕ → K → ℕ) →
+    (log : List (Note K V S)) → IsKept eq hash place log → (ticket : ℕ) →
+    (made_on ticket (entries_of log) ≤ 1)
+    × ((own : ℕ) (home : Bool) → slice_get (state_of log).cells own ≡ Some (Ticket ticket home) →
+    made_on ticket (entries_of log) ≡ cond home 1 0)
+    × ((front : List (Note K V S)) → IsFront front log → made_on ticket (entries_of front) ≡ 1 →
+    made_on ticket (entries_of log) ≡ 1)

@@ -1,0 +1,104 @@
+-- The rule of a table's book: what its cells and its log keep.
+use Rattle.std.specs.Prelude.{◌≡◌, ◌↔◌, ℕ, ◌^◌, ◌==◌, ◌<◌, ◌≤◌, Bool, true, cond, List, ◌∷◌, map, length, Option, Some, None}
+use Rattle.std.specs.List.{slice_get}
+use mathlib.Core.List.{IsPrefix}
+use Rattle.logbook.specs.Pages.{Cell}
+use Rattle.moka_hist.specs.Finite.{times}
+use Rattle.moka_words.specs.declared.words.Word.{Word}
+use Rattle.moka_pairs.specs.Keys.{Agrees}
+use Rattle.moka_pairs.specs.Pairs.{segment_keys, map_of}
+use Rattle.moka_pairs.specs.Segments.{SoundAll, LaterAll}
+use Rattle.moka_history.specs.declared.note.Note.{Note}
+use Rattle.moka_history.specs.declared.note.Note.TheVariants.{Opened}
+use Rattle.moka_history.specs.Entries.{Entry, IsLegal, map_after}
+use Rattle.moka_history.specs.States.{Door, Bucket, Ticket, State, IsPlaced, memory_of}
+use Rattle.moka_history.specs.Logs.{entries_of, state_of}
+use Rattle.moka_history.specs.Cells.{cells_of}
+
+module _ {K V : Type 0} where
+  -- how many entries were made on the ticket
+  abbrev pub made_on : (ticket : ℕ) → List (Entry K V) → ℕ
+  made_on ticket es = times ticket (map (λ e. e.ticket) es)
+
+  -- one cell an owner: the door is the first one, each place of an array has a bucket of its own,
+  -- and each ticket at most one cell
+  pub record IsOwned (s : State K V) : Type 0 where
+    pub door : (k : ℕ) → slice_get s.cells k ≡ Some Door ↔ (k ≡ 0)
+    pub buckets : (a i k : ℕ) → slice_get (s.arrays a) i ≡ Some k →
+        (w : Word) × (slice_get s.cells k ≡ Some (Bucket w))
+    pub places : IsPlaced s
+    pub tickets : (j k n : ℕ) (b c : Bool) → slice_get s.cells j ≡ Some (Ticket n b) →
+        slice_get s.cells k ≡ Some (Ticket n c) → j ≡ k
+
+  -- Tickets rise to the last one, which is at most 2^60: no later one has a cell, a pair or an
+  -- entry. At most one entry was made on a ticket: on one whose cell is home, and not before.
+  pub record IsDrawn (s : State K V) (es : List (Entry K V)) : Type 0 where
+    pub first : s.segments ≤ s.last
+    pub last : s.last ≤ 2 ^ 60
+    pub cells : (k n : ℕ) (home : Bool) → slice_get s.cells k ≡ Some (Ticket n home) →
+        (n ≤ s.last) × (made_on n es ≡ cond home 1 0)
+    pub pairs : (n : ℕ) → s.last < n → s.pairs n ≡ None
+    pub entries : (n : ℕ) → s.last < n → made_on n es ≡ 0
+    pub once : (n : ℕ) → made_on n es ≤ 1
+
+-- `place` is the segment of a key, `hash` its hash
+module _ {K V : Type 0} (place : K → ℕ) where
+  -- the keys of a segment's numbers
+  abbrev pub keys_of : State K V → (segment n : ℕ) → Option K
+  keys_of s segment = segment_keys (λ key. place key == segment) s.pairs
+
+module _ {K V : Type 0} (eq : K → K → Bool) (place : K → ℕ) where
+  -- the pair that the words of a segment give for a key
+  abbrev pub pair_in : State K V → (segment : ℕ) → K → Option (K × V)
+  pair_in s segment q = map_of eq (memory_of s segment) (keys_of place s segment) s.pairs q
+
+  -- What stays true of a state: arrays keep their cells, tickets theirs, numbers their pairs, and
+  -- the memory of each segment is a later one.
+  pub record Lasts (old new : State K V) : Type 0 where
+    pub segments : new.segments ≡ old.segments
+    pub last : old.last ≤ new.last
+    pub arrays : (a i k : ℕ) → slice_get (old.arrays a) i ≡ Some k →
+        slice_get (new.arrays a) i ≡ Some k
+    pub tickets : (k n : ℕ) (b : Bool) → slice_get old.cells k ≡ Some (Ticket n b) →
+        (c : Bool) × (slice_get new.cells k ≡ Some (Ticket n c)) × (b ≡ true → c ≡ true)
+    pub pairs : Agrees new.pairs old.pairs
+    pub later : (i : ℕ) → i < old.segments →
+        LaterAll eq (keys_of place new i) (memory_of old i) (memory_of new i)
+
+module _ {K V : Type 0} (eq : K → K → Bool) (hash place : K → ℕ) where
+  -- What holds of a state and of the entries so far: each segment is sound, whatever keys are still
+  -- to come, the entries are legal, and the map after them is what the words give.
+  pub record IsGood (s : State K V) (es : List (Entry K V)) : Type 0 where
+    pub owned : IsOwned s
+    pub drawn : IsDrawn s es
+    pub sound : (i : ℕ) → i < s.segments → SoundAll eq hash (keys_of place s i) (memory_of s i)
+    pub legal : IsLegal eq es
+    pub map_is : (q : K) → place q < s.segments → map_after eq es q ≡ pair_in eq place s (place q) q
+
+module _ {K V S : Type 0} where
+  -- the log of a table that was opened so
+  abbrev pub IsOpenedFor : (segments size : ℕ) → S → List (Note K V S) → Type 0
+  IsOpenedFor segments size hasher log =
+      (rest : List (Note K V S)) × (log ≡ Opened segments size hasher ∷ rest)
+
+  -- a beginning of the log, with its first note at least
+  pub record IsFront (front log : List (Note K V S)) : Type 0 where
+    pub some : 0 < length front
+    pub begins : IsPrefix front log
+
+-- `hash` and `place` are those of a hash builder; `place` is that of so many segments
+module _ {K V S : Type 0} (eq : K → K → Bool) (hash : S → K → ℕ) (place : S → ℕ → K → ℕ) where
+  -- after each front of it all was good, and has lasted
+  pub record IsKept (log : List (Note K V S)) : Type 0 where
+    pub segments : ℕ
+    pub size : ℕ
+    pub hasher : S
+    pub opened : IsOpenedFor segments size hasher log
+    pub good : (front : List (Note K V S)) → IsFront front log →
+        IsGood eq (hash hasher) (place hasher segments) (state_of front) (entries_of front)
+    pub lasts : (front next : List (Note K V S)) → IsFront front next → IsPrefix next log →
+        Lasts eq (place hasher segments) (state_of front) (state_of next)
+
+  -- the rule
+  abbrev pub Holds : (cells : List Cell) → (log : List (Note K V S)) → Type 0
+  Holds cells log = (cells ≡ cells_of (state_of log)) × IsKept log

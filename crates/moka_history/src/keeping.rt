@@ -1,0 +1,34 @@
+//! Laws of the rule that the cells of a book keep with its log.
+
+ghost use Rattle.moka_history.specs.Keeping.{AnnouncingKeeps, CellsHoldWords, ChangingKeeps, LookKeeps, NumbersTellWords, OpeningIsKept};
+
+/// The book of a table that was just opened keeps the rule.
+pub fn opening_is_kept<K, V, S>()
+    ensures kept { OpeningIsKept K V S }
+{}
+
+/// The cells of arrays hold the words, by their numbers; the first cell counts the tickets drawn.
+pub fn cells_hold_words<K, V, S>()
+    ensures hold { CellsHoldWords K V S }
+{}
+
+/// Two words whose nodes have small numbers are one word, if their cells hold one number.
+pub fn numbers_tell_words()
+    ensures tell { NumbersTellWords }
+{}
+
+/// A step that leaves a word as it is keeps the rule.
+pub fn look_keeps<K, V, S>()
+    ensures keeps { LookKeeps K V S }
+{}
+
+/// A step that draws the next ticket, and names its pair, keeps the rule.
+pub fn announcing_keeps<K, V, S>()
+    ensures keeps { AnnouncingKeeps K V S }
+{}
+
+/// The exchange of a word by a fitting call, on a ticket that wasn't spent, keeps the rule. It adds
+/// one entry.
+pub fn changing_keeps<K, V, S>()
+    ensures keeps { ChangingKeeps K V S }
+{}
