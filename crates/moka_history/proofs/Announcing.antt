@@ -3,15 +3,17 @@ use Rattle.std.proofs.Common.{◌≡◌, ℕ, ◌^◌, ◌<◌, ◌≤◌, ◌==
 use Rattle.std.proofs.lemmas.Bool.Decides.{eqb_tells}
 use Rattle.std.specs.Cmp.{IsEquivalence}
 use Rattle.std.specs.List.{slice_get}
+use Rattle.moka_words.specs.Words.{node_of, word_at}
 use Rattle.moka_growth.specs.Maps.{IsElsewhere}
 use Rattle.moka_pairs.specs.Keys.{Agrees, Respects}
 use Rattle.moka_history.specs.declared.note.Note.{Note}
 use Rattle.moka_history.specs.declared.note.Note.TheVariants.{Announced}
 use Rattle.moka_history.specs.Entries.{Entry}
 use Rattle.moka_history.specs.States.{Door, Bucket, Ticket, State, IsPlaced, after, memory_of, words_in}
-use Rattle.moka_history.specs.Rules.{IsOwned, IsDrawn, IsGood, Lasts}
+use Rattle.moka_history.specs.Rules.{WasPut, IsOwned, IsDrawn, IsGood, Lasts}
 use Rattle.moka_history.proofs.Cells.{announced_keeps}
 use Rattle.moka_history.proofs.Lists.{no_item, one_item, front_get, more_get}
+use Rattle.moka_history.proofs.Named.{word_names}
 use Rattle.moka_history.proofs.Resting.{rests_sound, rests_later, rests_map}
 
 door_not_ticket : {n : ℕ} {b : Bool} → Door ≡ Ticket n b → ⊥
@@ -97,10 +99,18 @@ module _ {K V : Type 0} (S : Type 0) (eq : K → K → Bool) (laws : IsEquivalen
     owned = later_owned;
     drawn = later_drawn;
     sound = λ i below. rests_sound eq laws hash place respects s drawn_state grows i (good.sound i below) (elsewhere i);
+    puts = λ i index n p below named at. (
+        let (q, was, mine) = word_names eq hash place s es good i below index n (sym (ap (λ ws. node_of (word_at ws index)) (words.0 (suc i))) ∙ named) in
+        subst (λ x. WasPut eq es x.0) (one_item (sym (grows n q was) ∙ at))
+        (good.puts i index n q below (sym (ap (λ ws. node_of (word_at ws index)) (words.0 (suc i))) ∙ named) was)
+        );
     legal = good.legal;
     map_is = λ q below. good.map_is q below
         ∙ sym (rests_map eq laws hash place respects s drawn_state grows (place q) (good.sound (place q) below) (elsewhere (place q)) q);
   }
+
+  pub announced_words : (array : ℕ) → words_in drawn_state array ≡ words_in s array
+  announced_words = words.0
 
   pub announced_lasts : Lasts eq place s drawn_state
   announced_lasts = record {

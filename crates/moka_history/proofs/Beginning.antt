@@ -66,7 +66,7 @@ module _ (K V : Type 0) {S : Type 0} (segments length_is : ℕ) (hasher : S) whe
   many : length (opened.cells) ≡ suc (segments * length_is)
   many = ap suc (length-replicate (segments * length_is) (Bucket Empty))
 
-  words_are : (i : ℕ) → i < segments → words_in opened (suc i) ≡ replicate length_is Empty
+  pub words_are : (i : ℕ) → i < segments → words_in opened (suc i) ≡ replicate length_is Empty
   words_are i below =
       let rows = row_end i segments length_is below in
       ap (λ b. map (word_in opened.cells) (if b then range_with_len (1 + i * length_is) length_is else [])) (lt-ltb i segments below)

@@ -1,13 +1,14 @@
 -- A word is exchanged by a call, and all stays good.
-use Rattle.std.proofs.Common.{◌≡◌, ◌≢◌, ℕ, ◌+◌, ◌<◌, ◌≤◌, ◌==◌, Bool, true, false, cond, List, [], ◌∷◌, ◌++◌, map, length, set, slice_index_or, Option, Some, None, zero, suc, inl, inr, refl, sym, ap, subst, ◌∙◌, arith}
+use Rattle.std.proofs.Common.{◌≡◌, ◌≢◌, ◌⊎◌, ℕ, ◌+◌, ◌<◌, ◌≤◌, ◌==◌, Bool, true, false, cond, List, [], ◌∷◌, ◌++◌, map, length, set, slice_index_or, Option, Some, None, zero, suc, inl, inr, refl, sym, ap, subst, ◌∙◌, arith}
 use Rattle.std.proofs.lemmas.Bool.{eqb-true, false≢true}
 use Rattle.std.proofs.lemmas.Bool.Decides.{eqb_tells}
-use Rattle.std.proofs.lemmas.List.{length-map}
+use Rattle.std.proofs.lemmas.List.{get_or-set_other, length-map}
 use Rattle.std.specs.Cmp.{IsEquivalence}
 use Rattle.std.specs.List.{slice_get}
-use Rattle.std.specs.Option.{option_map, option_map_or}
+use Rattle.std.specs.Option.{is_some, option_map, option_map_or}
 use Rattle.moka_hist.specs.Finite.{put_key, times}
 use Rattle.moka_words.specs.declared.words.Word.{Word}
+use Rattle.moka_words.specs.declared.words.Word.TheVariants.{Empty, Live, Tomb}
 use Rattle.moka_words.specs.declared.accesses.Access.{Access}
 use Rattle.moka_words.specs.declared.accesses.Seen.{Seen}
 use Rattle.moka_words.specs.declared.accesses.Seen.TheVariants as seen
@@ -30,10 +31,10 @@ use Rattle.moka_history.specs.Entries.{Entry, IsLegal, map_after, pair_put}
 use Rattle.moka_history.specs.States.{Owner, Door, Bucket, Ticket, State, IsPlaced, after, key_at, memory_of, spent, word_in, words_in}
 use Rattle.moka_history.specs.Logs.{entry_of, entry_with}
 use Rattle.moka_history.specs.Cells.{cell_of, number_of}
-use Rattle.moka_history.specs.Rules.{made_on, keys_of, pair_in, IsOwned, IsDrawn, IsGood, Lasts}
+use Rattle.moka_history.specs.Rules.{WasPut, made_on, keys_of, pair_in, IsOwned, IsDrawn, IsGood, Lasts}
 use Rattle.moka_history.specs.Keeping.{Exchanges}
 use Rattle.moka_history.proofs.Cells.{changed_sets, key_there}
-use Rattle.moka_history.proofs.Lists.{no_item, one_item, get_below, map_more as maps_more, times_more}
+use Rattle.moka_history.proofs.Lists.{no_item, one_item, front_get, get_below, get_or, last_get, set_get, map_more as maps_more, times_more}
 use Rattle.moka_history.proofs.Maps.{change_is, legal_more, map_more, named_pair}
 use Rattle.moka_history.proofs.Owners.{bucket_is_no_ticket, changed_cells, door_is_no_bucket, changed_here, changed_other, changed_from, unspent_door, unspent_ticket}
 use Rattle.moka_history.proofs.Resting.{rests_sound, rests_later, rests_map}
@@ -59,6 +60,14 @@ same_own : {K : Type 0} (eq : K → K → Bool) → IsEquivalence eq → (key k 
     option_map_or (eq key) o false ≡ option_map_or (eq k) o false
 same_own eq laws key k same None = refl
 same_own eq laws key k same (Some l) = laws.congr key k l same
+
+-- a node that a change names is stored by it, or its bucket had the node
+change_stores : (own : ℕ → Bool) (from to : Word) → IsChange own from to → (n : ℕ) → node_of to ≡ Some n → (stored_in to ≡ Some n) ⊎ (node_of from ≡ Some n)
+change_stores own Empty (Live k) h n e = inl e
+change_stores own (Tomb m) (Live k) h n e = inl e
+change_stores own (Live m) (Live k) h n e = inl e
+change_stores own (Live m) (Tomb k) h n e = inr (ap Some h.1 ∙ e)
+change_stores own from to h n e = absurd h
 
 module _ {K V : Type 0} (S : Type 0) (eq : K → K → Bool) (laws : IsEquivalence eq) (hash place : K → ℕ) (respects : Respects eq hash)
     (alike : Respects eq place) (s : State K V) (es : List (Entry K V)) (good : IsGood eq hash place s es) (key : K) (c : Call)
@@ -217,6 +226,58 @@ module _ {K V : Type 0} (S : Type 0) (eq : K → K → Bool) (laws : IsEquivalen
     | inr p ↦ map_there q p.1 below
   ]
 
+  -- the keys that were put
+  put_before : (k : K) → WasPut eq es k → WasPut eq longer k
+  put_before k (n, e, at, same, some) = (n, e, front_get es (entry ∷ []) n e at, same, some)
+
+  put_now : (n : ℕ) (p : K × V) → node_of to ≡ Some n → s.pairs n ≡ Some p → stored_in to ≡ Some n → WasPut eq longer p.0
+  put_now n p names at stored =
+      let same : p ≡ (own_key, pair_is.0) = one_item (sym at ∙ (ap (pair_at s.pairs) (sym names) ∙ pair_is.1)) in (
+        length es,
+        entry,
+        last_get es entry,
+        ap (eq own_key) (ap (λ x. x.0) same) ∙ laws.refl own_key,
+        ap (λ o. is_some (option_map (λ x. x.1) (pair_at s.pairs o))) stored ∙ ap (λ o. is_some (option_map (λ x. x.1) o)) at,
+      )
+
+  put_here : (j n : ℕ) (p : K × V) → j ≡ here → node_of to ≡ Some n → s.pairs n ≡ Some p → WasPut eq longer p.0
+  put_here j n p is names at = elim (change_stores (own_by eq known key) from to fits.1 n names) [
+    | inl stored ↦ put_now n p names at stored
+    | inr had ↦ put_before p.0 (good.puts here index n p x.within
+        (ap (λ a. node_of (word_at (words_in s a) index)) (sym is_root) ∙ (ap node_of x.found ∙ had)) at)
+  ]
+
+  puts : (i j n : ℕ) (p : K × V) → i < s.segments → node_of (word_at (words_in changed_state (suc i)) j) ≡ Some n → s.pairs n ≡ Some p → WasPut eq longer p.0
+  puts i j n p below names at = elim (eqb_tells i here) [
+    | inl q ↦ elim (eqb_tells j index) [
+      | inl r ↦ put_here i n p q.1 (sym (word_here i j q.1 r.1) ∙ names) at
+      | inr r ↦ put_before p.0 (good.puts i j n p below (sym (word_beside i j q.1 r.1) ∙ names) at)
+    ]
+    | inr q ↦ put_before p.0 (good.puts i j n p below (sym (word_elsewhere i j q.1) ∙ names) at)
+  ]
+    where
+      array_of : (k : ℕ) → k ≡ here → suc k ≡ array
+      array_of k is = ap suc is ∙ sym is_root
+
+      inside : index < length (words_in s array)
+      inside = let long = length-map (s.arrays array) (word_in s.cells) in let below = within in omega (arith, long, below)
+
+      word_here : (k l : ℕ) → k ≡ here → l ≡ index → node_of (word_at (words_in changed_state (suc k)) l) ≡ node_of to
+      word_here k l is same = ap (λ a. node_of (word_at (words_in changed_state a) l)) (array_of k is)
+          ∙ (ap (λ ws. node_of (word_at ws l)) (sets here).0.0
+          ∙ (ap (λ m. node_of (word_at (set (words_in s array) index to) m)) same
+          ∙ ap node_of (get_or (set (words_in s array) index to) index to _ (set_get (words_in s array) index to inside))))
+
+      word_beside : (k l : ℕ) → k ≡ here → l ≢ index → node_of (word_at (words_in changed_state (suc k)) l) ≡ node_of (word_at (words_in s (suc k)) l)
+      word_beside k l is other = ap (λ a. node_of (word_at (words_in changed_state a) l)) (array_of k is)
+          ∙ (ap (λ ws. node_of (word_at ws l)) (sets here).0.0
+          ∙ (ap node_of (get_or-set_other (words_in s array) index l to _ other)
+          ∙ ap (λ a. node_of (word_at (words_in s a) l)) (sym (array_of k is))))
+
+      word_elsewhere : (k l : ℕ) → k ≢ here → node_of (word_at (words_in changed_state (suc k)) l) ≡ node_of (word_at (words_in s (suc k)) l)
+      word_elsewhere k l other = ap (λ ws. node_of (word_at ws l))
+          ((sets here).0.1 (suc k) (λ same. let root = is_root in other (omega (arith, same, root))))
+
   -- the cells
   abbrev pub bucket : ℕ
   bucket = key_at s array index
@@ -316,6 +377,7 @@ module _ {K V : Type 0} (S : Type 0) (eq : K → K → Bool) (laws : IsEquivalen
     owned = later_owned;
     drawn = later_drawn;
     sound = there_sound;
+    puts = puts;
     legal = legal_more eq (λ k. None) es entry good.legal former_is;
     map_is = map_longer;
   }

@@ -1,21 +1,24 @@
 -- Kept logs: their fronts, their words, and what calls find after them.
-use Rattle.std.proofs.Common.{◌≡◌, ℕ, ◌+◌, ◌^◌, ◌<◌, ◌≤◌, ◌==◌, Bool, true, false, cond, List, [], ◌∷◌, ◌++◌, map, length, Option, Some, None, zero, suc, inl, inr, refl, sym, ap, subst, ◌∙◌, arith, append_assoc, if◌then◌else◌}
-use Rattle.std.proofs.lemmas.Bool.{cases_lt, eqb-true, false≢true}
-use Rattle.std.specs.List.{slice_get}
-use Rattle.std.specs.Option.{is_some, option_map, option_to_list}
+use Rattle.std.proofs.Common.{◌≡◌, ◌≢◌, ℕ, ◌+◌, ◌*◌, ◌^◌, ◌<◌, ◌≤◌, ◌==◌, Bool, true, false, cond, List, [], ◌∷◌, ◌++◌, map, length, Option, Some, None, zero, suc, inl, inr, refl, sym, ap, subst, ◌∙◌, arith, if◌then◌else◌}
+use Rattle.std.proofs.lemmas.Bool.{cases_lt, eq-eqb, false≢true, lt-ltb}
+use Rattle.std.proofs.lemmas.List.{length-replicate}
+use Rattle.std.specs.List.{slice_get, range_with_len}
+use Rattle.std.specs.Prelude.{IsSome}
+use Rattle.std.specs.Option.{option_map}
 use mathlib.Core.List.{IsPrefix}
 use Rattle.logbook.specs.Pages.{Cell, cell}
 use Rattle.moka_hist.specs.Finite.{times}
 use Rattle.moka_words.specs.declared.words.Word.{Word}
+use Rattle.moka_words.specs.declared.words.Word.TheVariants.{Empty}
 use Rattle.moka_words.specs.Words.{node_of, word_at}
+use Rattle.moka_words.specs.Effect.{Memory}
 use Rattle.moka_growth.specs.Calls.{Call}
 use Rattle.moka_growth.specs.Fits.{Rests}
 use Rattle.moka_growth.specs.Maps.{Finds}
-use Rattle.moka_growth.specs.Sound.{IsSound}
-use Rattle.moka_pairs.specs.Keys.{Agrees, hash_by, same_by, mine_by, own_by}
-use Rattle.moka_pairs.specs.Pairs.{key_if, pair_at}
+use Rattle.moka_pairs.specs.Keys.{Agrees, is_one_key, own_by}
+use Rattle.moka_pairs.specs.Pairs.{pair_at}
 use Rattle.moka_pairs.specs.Segments.{FitsAll, IsHashed}
-use Rattle.moka_pairs.proofs.Divided.{segment_grows}
+use Rattle.moka_pairs.proofs.Divided.{segment_grows, segment_has}
 use Rattle.moka_pairs.proofs.Grown.{fits_grown, sound_grown}
 use Rattle.moka_pairs.proofs.Mapped.{map_found}
 use Rattle.moka_pairs.proofs.Names.{agrees_now}
@@ -23,27 +26,20 @@ use Rattle.moka_pairs.proofs.Steps.{fits_last}
 use Rattle.moka_history.specs.declared.note.Note.{Note}
 use Rattle.moka_history.specs.declared.note.Note.TheVariants.{Opened}
 use Rattle.moka_history.specs.Entries.{Entry, map_after}
-use Rattle.moka_history.specs.States.{Door, Bucket, Ticket, State, after, memory_of, word_in, word_of, words_in}
-use Rattle.moka_history.specs.Logs.{entries_from, entries_of, entry_of, state_from, state_of}
+use Rattle.moka_history.specs.States.{Door, Bucket, Ticket, State, first_keys, memory_of, word_in, word_of, words_in}
+use Rattle.moka_history.specs.Logs.{entries_of, state_of}
 use Rattle.moka_history.specs.Cells.{cell_of, cells_of, drawn, number_of}
 use Rattle.moka_history.specs.Rules.{made_on, keys_of, IsGood, Lasts, IsOpenedFor, IsFront, IsKept, Holds}
-use Rattle.moka_history.specs.Keeping.{IsDivided}
-use Rattle.moka_history.proofs.Lists.{get_below, get_or, map_get, prefix_self, prefix_through}
-
-no_note : {A : Type 0} {x : A} {xs : List A} → [] ≡ x ∷ xs → ⊥
-no_note e = absurd (cc (e))
+use Rattle.moka_history.specs.Keeping.{ArePut, IsDivided}
+use Rattle.moka_history.proofs.Beginning.{words_are}
+use Rattle.moka_history.proofs.Folds.{entries_begin, entries_grow}
+use Rattle.moka_history.proofs.Named.{array_is, word_names}
+use Rattle.moka_history.proofs.Lists.{no_item, one_item, get_below, get_or, map_get, prefix_self, prefix_through}
 
 head_same : {A : Type 0} {x y : A} {xs ys : List A} → x ∷ xs ≡ y ∷ ys → x ≡ y
 head_same e = cc (e)
 
 module _ {K V S : Type 0} where
-  -- the entries of a log that goes on
-  entries_append : (s : State K V) (log more : List (Note K V S)) →
-      entries_from s (log ++ more) ≡ entries_from s log ++ entries_from (state_from s log) more
-  entries_append s [] more = refl
-  entries_append s (x ∷ log) more = ap (λ es. option_to_list (entry_of s x) ++ es) (entries_append (after s x) log more)
-      ∙ sym (append_assoc (option_to_list (entry_of s x)) (entries_from (after s x) log) (entries_from (state_from (after s x) log) more))
-
   -- a front was opened as the log was
   front_opened : (segments size : ℕ) (hasher : S) (front log : List (Note K V S)) → IsOpenedFor segments size hasher log → 0 < length front →
       IsPrefix front log → IsOpenedFor segments size hasher front
@@ -63,15 +59,33 @@ map_append : {A B : Type 0} (f : A → B) (xs ys : List A) → map f (xs ++ ys) 
 map_append f [] ys = refl
 map_append f (x ∷ xs) ys = ap (λ v. f x ∷ v) (map_append f xs ys)
 
--- the pair of a number whose key is one of the segment
-pair_of_own : {K V : Type 0} (place : K → ℕ) (i : ℕ) (o : Option (K × V)) → is_some (key_if (λ k. place k == i) o) ≡ true →
-    (p : K × V) × (o ≡ Some p) × (place p.0 ≡ i)
-pair_of_own place i None e = absurd (false≢true e)
-pair_of_own {K} {V} place i (Some p) e = (p, refl, by (place p.0 == i) refl e)
+-- an item stands at each place of a list
+item_at : {A : Type 0} (xs : List A) (k : ℕ) → k < length xs → (x : A) × (slice_get xs k ≡ Some x)
+item_at [] k below = absurd (omega arith)
+item_at (x ∷ xs) zero below = (x, refl)
+item_at (x ∷ xs) (suc k) below = item_at xs k (omega arith)
+
+-- an entry on a ticket is one of those made on it
+made_some : {K V : Type 0} (n : ℕ) (es : List (Entry K V)) (k : ℕ) (e : Entry K V) → slice_get es k ≡ Some e → e.ticket ≡ n → 1 ≤ made_on n es
+made_some n [] k e at is = absurd (no_item at)
+made_some n (x ∷ es) zero e at is =
+    let there : (n == x.ticket) ≡ true = eq-eqb n x.ticket (sym is ∙ ap (λ y. y.ticket) (sym (one_item at))) in
+    subst (λ b. 1 ≤ cond b (made_on n es + 1) (made_on n es)) (sym there) (omega arith)
+made_some n (x ∷ es) (suc k) e at is = let rest = made_some n es k e at is in by (n == x.ticket) (made_on n es) rest
   where
-    by : (b : Bool) → (place p.0 == i) ≡ b → is_some (if b then Some p.0 else None) ≡ true → place p.0 ≡ i
-    by true is f = eqb-true (place p.0) i is
-    by false is f = absurd (false≢true f)
+    by : (b : Bool) (m : ℕ) → 1 ≤ m → 1 ≤ cond b (m + 1) m
+    by true m low = omega (arith, low)
+    by false m low = low
+
+-- the key of an array's row at a place
+row_at : (segments size i index : ℕ) → i < segments → index < size → slice_get (first_keys segments size (suc i)) index ≡ Some (1 + i * size + index)
+row_at segments size i index below inside =
+    ap (λ b. slice_get (if b then range_with_len (1 + i * size) size else []) index) (lt-ltb i segments below) ∙ in_range (1 + i * size) size index inside
+  where
+    in_range : (a n k : ℕ) → k < n → slice_get (range_with_len a n) k ≡ Some (a + k)
+    in_range a zero k low = absurd (omega arith)
+    in_range a (suc n) zero low = ap Some (omega arith)
+    in_range a (suc n) (suc k) low = in_range (a + 1) n k (omega arith) ∙ ap Some (omega arith)
 
 module _ {K V S : Type 0} (eq : K → K → Bool) (hash : S → K → ℕ) (place : S → ℕ → K → ℕ) (log : List (Note K V S)) (kept : IsKept eq hash place log) where
   abbrev Place : K → ℕ
@@ -87,27 +101,68 @@ module _ {K V S : Type 0} (eq : K → K → Bool) (hash : S → K → ℕ) (plac
   pub good_now : IsGood eq (hash kept.hasher) Place (state_of log) (entries_of log)
   good_now = kept.good log whole
 
+  first_front : IsFront (Opened kept.segments kept.size kept.hasher ∷ []) log
+  first_front = record { some = omega arith; begins = (kept.opened.0, sym kept.opened.1) }
+
+  first_lasts : Lasts eq Place (state_of (Opened kept.segments kept.size kept.hasher ∷ [])) (state_of log)
+  first_lasts = kept.lasts (Opened kept.segments kept.size kept.hasher ∷ []) log first_front (prefix_self log)
+
   pub segments_are : (state_of log).segments ≡ kept.segments
-  segments_are = (kept.lasts (Opened kept.segments kept.size kept.hasher ∷ []) log
-      (record { some = omega arith; begins = (kept.opened.0, sym kept.opened.1) }) (prefix_self log)).segments
+  segments_are = first_lasts.segments
 
-  pub words_have_pairs : (i index n : ℕ) → i < kept.segments → node_of (word_at (words_in (state_of log) (suc i)) index) ≡ Some n →
-      (p : K × V) × ((state_of log).pairs n ≡ Some p) × (Place p.0 ≡ i) × (n ≤ 2 ^ 60)
-  words_have_pairs i index n below named =
-      let known = keys_of Place (state_of log) i in
-      let sound = good_now.sound i (subst (λ m. i < m) (sym segments_are) below) known (agrees_now known) in
-      let mine = (sound.roots 0 (suc i) (omega arith) refl).keys index n named in
-      let (p, there, is) = pair_of_own Place i ((state_of log).pairs n) mine in
-      (p, there, is, low there)
-    where
-      none : {p : K × V} → None ≡ Some p → ⊥
-      none e = cc
+  module _ (i : ℕ) (below : i < kept.segments) where
+    below_now : i < (state_of log).segments
+    below_now = subst (λ m. i < m) (sym segments_are) below
 
-      low : {p : K × V} → (state_of log).pairs n ≡ Some p → n ≤ 2 ^ 60
-      low there = elim (cases_lt (state_of log).last n) [
-        | inl less ↦ absurd (none (sym (good_now.drawn.pairs n less) ∙ there))
-        | inr more ↦ (let last = good_now.drawn.last in omega (arith, more, last))
-      ]
+    -- the row of an array
+    pub row_now : (index : ℕ) → index < kept.size → slice_get ((state_of log).arrays (suc i)) index ≡ Some (1 + i * kept.size + index)
+    row_now index inside = first_lasts.arrays (suc i) index (1 + i * kept.size + index) (row_at kept.segments kept.size i index below inside)
+
+    pub length_now : length (words_in (state_of log) (suc i)) ≡ kept.size
+    length_now =
+        ((first_lasts.later i below (keys_of Place (state_of log) i) (agrees_now (keys_of Place (state_of log) i))).words 0 (suc i) refl
+        (omega (arith, below))).length_stays
+        ∙ (ap (λ ws. length ws) (words_are K V kept.segments kept.size kept.hasher i below) ∙ length-replicate kept.size Empty)
+
+    pub words_have_pairs : (index n : ℕ) → node_of (word_at (words_in (state_of log) (suc i)) index) ≡ Some n →
+        (p : K × V) × ((state_of log).pairs n ≡ Some p) × (Place p.0 ≡ i) × (n ≤ 2 ^ 60)
+    words_have_pairs index n named =
+        let (p, there, is) = word_names eq (hash kept.hasher) Place (state_of log) (entries_of log) good_now i below_now index n named in
+        (p, there, is, low there)
+      where
+        low : {p : K × V} → (state_of log).pairs n ≡ Some p → n ≤ 2 ^ 60
+        low there = elim (cases_lt (state_of log).last n) [
+          | inl less ↦ absurd (no_item (sym (good_now.drawn.pairs n less) ∙ there))
+          | inr more ↦ (let last = good_now.drawn.last in omega (arith, more, last))
+        ]
+
+    -- an array without a free word was filled by puts
+    module _ (full : (index : ℕ) → index < kept.size → IsSome (node_of (word_at (words_in (state_of log) (suc i)) index))) where
+      some_is : {A : Type 0} (o : Option A) → IsSome o → (x : A) × (o ≡ Some x)
+      some_is None e = absurd (false≢true e)
+      some_is (Some x) e = (x, refl)
+
+      node_there : (index : ℕ) → index < kept.size → (n : ℕ) × (node_of (word_at (words_in (state_of log) (suc i)) index) ≡ Some n)
+      node_there index inside = some_is (node_of (word_at (words_in (state_of log) (suc i)) index)) (full index inside)
+
+      pair_there : (index : ℕ) (inside : index < kept.size) → (p : K × V) × ((state_of log).pairs (node_there index inside).0 ≡ Some p) × (Place p.0 ≡ i)
+      pair_there index inside = word_names eq (hash kept.hasher) Place (state_of log) (entries_of log) good_now i below_now index
+          (node_there index inside).0 (node_there index inside).1
+
+      known_there : (index : ℕ) (inside : index < kept.size) → keys_of Place (state_of log) i (node_there index inside).0 ≡ Some (pair_there index inside).0.0
+      known_there index inside = segment_has (λ k. Place k == i) (state_of log).pairs (node_there index inside).0 (pair_there index inside).0
+          (pair_there index inside).1 (eq-eqb (Place (pair_there index inside).0.0) i (pair_there index inside).2)
+
+      pub full_put : ArePut eq Place (entries_of log) i kept.size
+      full_put = record {
+        key = λ n b. (pair_there n b).0.0;
+        own = λ n b. (pair_there n b).2;
+        put = λ n b. good_now.puts i n (node_there n b).0 (pair_there n b).0 below_now (node_there n b).1 (pair_there n b).1;
+        differ = λ n m b d same. (array_is eq (hash kept.hasher) Place (state_of log) (entries_of log) good_now i below_now).array.one n m
+            (node_there n b).0 (node_there m d).0 (node_there n b).1 (node_there m d).1
+            (ap (λ o. is_one_key eq o (keys_of Place (state_of log) i (node_there m d).0)) (known_there n b)
+            ∙ (ap (λ o. is_one_key eq (Some (pair_there n b).0.0) o) (known_there m d) ∙ same));
+      }
 
   -- what a call found is the history's
   pub found_now : IsDivided eq hash place → (key : K) (found : Option ℕ) → Place key < kept.segments →
@@ -131,34 +186,62 @@ module _ {K V S : Type 0} (eq : K → K → Bool) (hash : S → K → ℕ) (plac
       opened = opened_too;
       good = λ first at. kept.good first (record { some = at.some; begins = prefix_through first front log at.begins is.begins });
       lasts = λ first next at begins. kept.lasts first next at (prefix_through next front log begins is.begins);
+      still = λ first next at begins. kept.still first next at (prefix_through next front log begins is.begins);
     }
 
     pub lasts_now : Lasts eq Place (state_of front) (state_of log)
     lasts_now = kept.lasts front log is (prefix_self log)
 
-    pub entries_begin : IsPrefix (entries_of front) (entries_of log)
-    entries_begin = (entries_from (state_of front) is.begins.0, sym (entries_append _ front is.begins.0) ∙ ap entries_of is.begins.1)
+    abbrev rest : IsPrefix (entries_of front) (entries_of log)
+    rest = entries_begin front log is.begins
 
     pub made_still : (ticket : ℕ) → made_on ticket (entries_of front) ≡ 1 → made_on ticket (entries_of log) ≡ 1
     made_still ticket one =
-        let grown = times_grow ticket (map (λ e. e.ticket) (entries_of front)) (map (λ e. e.ticket) entries_begin.0) in
-        let all = ap (times ticket) (sym (map_append (λ e. e.ticket) (entries_of front) entries_begin.0) ∙ ap (map (λ e. e.ticket)) entries_begin.1) in
+        let grown = times_grow ticket (map (λ e. e.ticket) (entries_of front)) (map (λ e. e.ticket) rest.0) in
+        let all = ap (times ticket) (sym (map_append (λ e. e.ticket) (entries_of front) rest.0) ∙ ap (map (λ e. e.ticket)) rest.1) in
         let once = good_now.drawn.once ticket in
         omega (arith, one, grown, all, once)
 
+    -- a word that isn't as it was has an entry
+    pub entry_between : (array index : ℕ) → word_at (words_in (state_of log) array) index ≢ word_at (words_in (state_of front) array) index →
+        (e : Entry K V) × (slice_get (entries_of log) (length (entries_of front)) ≡ Some e)
+        × ((own ticket : ℕ) → slice_get (state_of log).cells own ≡ Some (Ticket ticket false) → e.ticket ≢ ticket)
+    entry_between array index differs = elim (cases_lt (length (entries_of front)) (length (entries_of log))) [
+      | inl less ↦ (let (e, at) = item_at (entries_of log) (length (entries_of front)) less in (
+        e,
+        at,
+        λ own ticket there same.
+            let some = made_some ticket (entries_of log) (length (entries_of front)) e at same in
+            let none = (good_now.drawn.cells own ticket false there).1 in
+            omega (arith, some, none),
+      ))
+      | inr more ↦ absurd (differs (ap (λ ws. word_at ws index) (kept.still front log is (prefix_self log)
+          (let grown = entries_grow front log is.begins in omega (arith, more, grown)) array)))
+    ]
+
     -- a call that fitted fits
-    pub fits_still : IsDivided eq hash place → (i : ℕ) → i < kept.segments → (key : Option K) (c : Call) → IsHashed (hash kept.hasher) key c →
-        Rests c.point → FitsAll eq (hash kept.hasher) (keys_of Place (state_of front) i) key (memory_of (state_of front) i) c →
-        FitsAll eq (hash kept.hasher) (keys_of Place (state_of log) i) key (memory_of (state_of log) i) c
-    fits_still divided i below key c hashed rests fits =
-        let was = keys_of Place (state_of front) i in
-        let known = keys_of Place (state_of log) i in
-        let grows : Agrees known was = segment_grows (λ k. Place k == i) (state_of log).pairs (state_of front).pairs lasts_now.pairs in
-        let within : i < (state_of front).segments = subst (λ m. i < m) (sym segments_are ∙ lasts_now.segments) below in
-        fits_last eq divided.laws (hash kept.hasher) (divided.hashed kept.hasher) known key c (memory_of (state_of front) i) (memory_of (state_of log) i)
-        (sound_grown eq (hash kept.hasher) was known grows (memory_of (state_of front) i) ((kept.good front is).sound i within))
-        (lasts_now.later i within) hashed rests
-        (fits_grown eq (hash kept.hasher) was known grows key (memory_of (state_of front) i) c fits)
+    module _ (i : ℕ) (below : i < kept.segments) (key : Option K) (c : Call) where
+      abbrev was : ℕ → Option K
+      was = keys_of Place (state_of front) i
+
+      abbrev known : ℕ → Option K
+      known = keys_of Place (state_of log) i
+
+      grows : Agrees known was
+      grows = segment_grows (λ k. Place k == i) (state_of log).pairs (state_of front).pairs lasts_now.pairs
+
+      within : i < (state_of front).segments
+      within = subst (λ m. i < m) (sym segments_are ∙ lasts_now.segments) below
+
+      pub fits_more : (m : Memory) → FitsAll eq (hash kept.hasher) was key m c → FitsAll eq (hash kept.hasher) known key m c
+      fits_more m fits = fits_grown eq (hash kept.hasher) was known grows key m c fits
+
+      pub fits_still : IsDivided eq hash place → IsHashed (hash kept.hasher) key c → Rests c.point →
+          FitsAll eq (hash kept.hasher) known key (memory_of (state_of front) i) c → FitsAll eq (hash kept.hasher) known key (memory_of (state_of log) i) c
+      fits_still divided hashed rests fits =
+          fits_last eq divided.laws (hash kept.hasher) (divided.hashed kept.hasher) known key c (memory_of (state_of front) i) (memory_of (state_of log) i)
+          (sound_grown eq (hash kept.hasher) was known grows (memory_of (state_of front) i) ((kept.good front is).sound i within))
+          (lasts_now.later i within) hashed rests fits
 
   -- the cells
   module _ (cells : List Cell) (are : cells ≡ cells_of (state_of log)) where
@@ -174,8 +257,8 @@ module _ {K V S : Type 0} (eq : K → K → Bool) (hash : S → K → ℕ) (plac
       ap (λ cs. cell cs k) are ∙ get_or (cells_of now) k (cell_of (drawn now) o) (0, false) (cell_there k o at),
     )
 
-    door_now : (cell cells 0 ≡ (drawn now, true)) × (0 < length cells)
-    door_now = let at = cell_now 0 Door ((good_now.owned.door 0).1 refl) in (at.1, at.0)
+    door_now : (0 < length cells) × (cell cells 0 ≡ (drawn now, true))
+    door_now = cell_now 0 Door ((good_now.owned.door 0).1 refl)
 
     word_now : (array index k : ℕ) → slice_get (now.arrays array) index ≡ Some k →
         (k < length cells) × (cell cells k ≡ (number_of (word_at (words_in now array) index), true))
@@ -187,7 +270,8 @@ module _ {K V S : Type 0} (eq : K → K → Bool) (hash : S → K → ℕ) (plac
         ∙ ap word_of (get_or now.cells k (Bucket w) Door there) in
         (here.0, here.1 ∙ ap (λ v. (number_of v, true)) (sym word))
 
-    pub cells_now : (cell cells 0 ≡ (drawn now, true)) × (0 < length cells)
+    pub cells_now : ((0 < length cells) × (cell cells 0 ≡ (drawn now, true)))
         × ((array index k : ℕ) → slice_get (now.arrays array) index ≡ Some k →
         (k < length cells) × (cell cells k ≡ (number_of (word_at (words_in now array) index), true)))
-    cells_now = (door_now.0, door_now.1, word_now)
+        × ((k n : ℕ) (home : Bool) → slice_get now.cells k ≡ Some (Ticket n home) → (k < length cells) × (cell cells k ≡ (0, home)))
+    cells_now = (door_now, word_now, λ k n home at. cell_now k (Ticket n home) at)

@@ -5,6 +5,7 @@ pub mod Beginning
 pub mod Lists
 pub mod Numbers
 pub mod Owners
+pub mod Named
 pub mod Resting
 pub mod Announcing
 pub mod Exchanged

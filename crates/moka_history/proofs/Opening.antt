@@ -6,17 +6,18 @@ use mathlib.Core.List.{IsPrefix}
 use Rattle.logbook.specs.Pages.{Cell}
 use Rattle.moka_words.specs.declared.words.Word.{Word}
 use Rattle.moka_words.specs.declared.words.Word.TheVariants.{Empty}
+use Rattle.moka_words.specs.Words.{node_of, word_at}
 use Rattle.moka_growth.specs.Maps.{present_nodes}
 use Rattle.moka_pairs.specs.Keys.{hash_by, same_by, mine_by, own_by}
 use Rattle.moka_pairs.specs.Pairs.{pair_at}
 use Rattle.moka_history.specs.declared.note.Note.{Note}
 use Rattle.moka_history.specs.declared.note.Note.TheVariants.{Opened}
-use Rattle.moka_history.specs.States.{Owner, Door, Bucket, Ticket, State, memory_of}
+use Rattle.moka_history.specs.States.{Owner, Door, Bucket, Ticket, State, memory_of, words_in}
 use Rattle.moka_history.specs.Logs.{entries_of, state_of}
 use Rattle.moka_history.specs.Cells.{cell_of, cells_of}
 use Rattle.moka_history.specs.Rules.{keys_of, pair_in, IsOwned, IsDrawn, IsGood, Lasts, IsFront, IsKept, Holds}
 use Rattle.moka_history.specs.Keeping.{IsDivided}
-use Rattle.moka_history.proofs.Beginning.{first_at, opened_is, placed}
+use Rattle.moka_history.proofs.Beginning.{first_at, opened_is, placed, words_are}
 use Rattle.moka_history.proofs.Lists.{no_item, one_item, prefix_more, prefix_through}
 use Rattle.moka_history.proofs.Resting.{lasts_same}
 
@@ -47,6 +48,11 @@ alike_length (suc n) x = ap suc (alike_length n x)
 empty_cells : (n d : ℕ) → map (cell_of d) (replicate n (Bucket Empty)) ≡ replicate n (0, true)
 empty_cells zero d = refl
 empty_cells (suc n) d = ap (λ cs. (0, true) ∷ cs) (empty_cells n d)
+
+no_node : (n k : ℕ) → node_of (word_at (replicate n Empty) k) ≡ None
+no_node zero k = refl
+no_node (suc n) zero = refl
+no_node (suc n) (suc k) = no_node n k
 
 no_pair : {K V : Type 0} (o : Option ℕ) → None ≡ pair_at {K = K} {V = V} (λ n. None) o
 no_pair None = refl
@@ -110,6 +116,8 @@ module _ {K : Type 0} (V : Type 0) {S : Type 0} (eq : K → K → Bool) (hash : 
     owned = owned;
     drawn = drawn;
     sound = λ i below keys agrees. (opened_is K V segments size hasher (hash_by (hash hasher) keys) (same_by eq keys) (mine_by keys) i power below).0;
+    puts = λ i index n p below named at.
+        absurd (no_item (sym (ap (λ ws. node_of (word_at ws index)) (words_are K V segments size hasher i below) ∙ no_node size index) ∙ named));
     legal = λ n e at. absurd (no_item at);
     map_is = λ q below. no_pair (find (own_by eq (keys_of Place opened (Place q)) q) (present_nodes (memory_of opened (Place q))));
   }
@@ -126,6 +134,10 @@ module _ {K : Type 0} (V : Type 0) {S : Type 0} (eq : K → K → Bool) (hash : 
         let next_is = alone next (record { some = longer front next is; begins = begins }) in
         subst (λ l. Lasts eq Place (state_of front) (state_of l)) (front_is ∙ sym next_is)
         (lasts_same eq divided.laws (hash hasher) Place (divided.hashed hasher) (state_of front));
+    still = λ front next is begins equal array.
+        let front_is = alone front (record { some = is.some; begins = prefix_through front next first is.begins begins }) in
+        let next_is = alone next (record { some = longer front next is; begins = begins }) in
+        ap (λ l. words_in (state_of l) array) (next_is ∙ sym front_is);
   }
     where
       alone : (front : List (Note K V S)) → IsFront front first → front ≡ first

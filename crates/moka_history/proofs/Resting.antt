@@ -1,5 +1,5 @@
 -- Segments whose words a step leaves, and what lasts through steps.
-use Rattle.std.proofs.Common.{◌≡◌, ℕ, ◌<◌, ◌==◌, Bool, List, [], ◌∷◌, ◌++◌, Option, Some, inl, inr, refl, sym, ap, subst, ◌∙◌, arith}
+use Rattle.std.proofs.Common.{◌≡◌, ℕ, ◌<◌, ◌==◌, Bool, List, [], ◌∷◌, ◌++◌, length, Option, Some, inl, inr, refl, sym, ap, subst, ◌∙◌, arith}
 use Rattle.std.specs.Cmp.{IsEquivalence}
 use Rattle.std.specs.List.{slice_get}
 use mathlib.Core.List.{IsPrefix}
@@ -16,10 +16,11 @@ use Rattle.moka_pairs.proofs.Grown.{map_grown}
 use Rattle.moka_pairs.proofs.Mapped.{map_kept}
 use Rattle.moka_pairs.proofs.Steps.{later_same}
 use Rattle.moka_history.specs.declared.note.Note.{Note}
-use Rattle.moka_history.specs.States.{State, memory_of}
+use Rattle.moka_history.specs.States.{State, memory_of, words_in}
 use Rattle.moka_history.specs.Logs.{entries_of, state_of}
 use Rattle.moka_history.specs.Rules.{keys_of, pair_in, IsGood, Lasts, IsFront, IsKept}
 use Rattle.moka_history.specs.Keeping.{IsDivided}
+use Rattle.moka_history.proofs.Folds.{entries_grow}
 use Rattle.moka_history.proofs.Lists.{prefix_more, prefix_self}
 
 module _ {K V : Type 0} (eq : K → K → Bool) (laws : IsEquivalence eq) (hash place : K → ℕ) (respects : Respects eq hash) where
@@ -84,7 +85,8 @@ module _ {K V S : Type 0} (eq : K → K → Bool) (hash : S → K → ℕ) (plac
   abbrev pub Longer : List (Note K V S)
   Longer = log ++ note ∷ []
 
-  module _ (good : IsGood eq (hash kept.hasher) Place (state_of Longer) (entries_of Longer)) (lasts : Lasts eq Place (state_of log) (state_of Longer)) where
+  module _ (good : IsGood eq (hash kept.hasher) Place (state_of Longer) (entries_of Longer)) (lasts : Lasts eq Place (state_of log) (state_of Longer))
+      (rests_words : length (entries_of Longer) ≡ length (entries_of log) → (array : ℕ) → words_in (state_of Longer) array ≡ words_in (state_of log) array) where
     same : (s : State K V) → Lasts eq Place s s
     same = lasts_same eq divided.laws (hash kept.hasher) Place (divided.hashed kept.hasher)
 
@@ -96,6 +98,22 @@ module _ {K V S : Type 0} (eq : K → K → Bool) (hash : S → K → ℕ) (plac
     to_longer front is = elim (prefix_more front log note is.begins) [
       | inl old ↦ through front (record { some = is.some; begins = old })
       | inr e ↦ subst (λ l. Lasts eq Place (state_of front) (state_of l)) e (same (state_of front))
+    ]
+
+    -- words change by entries alone
+    still_log : (front : List (Note K V S)) → IsFront front log → length (entries_of Longer) ≡ length (entries_of front) → (array : ℕ) →
+        words_in (state_of Longer) array ≡ words_in (state_of front) array
+    still_log front is equal array =
+        let some = entries_grow front log is.begins in
+        let more = entries_grow log Longer (note ∷ [], refl) in
+        rests_words (omega (arith, equal, some, more)) array
+        ∙ kept.still front log is (prefix_self log) (omega (arith, equal, some, more)) array
+
+    still_longer : (front : List (Note K V S)) → IsFront front Longer → length (entries_of Longer) ≡ length (entries_of front) → (array : ℕ) →
+        words_in (state_of Longer) array ≡ words_in (state_of front) array
+    still_longer front is equal array = elim (prefix_more front log note is.begins) [
+      | inl old ↦ still_log front (record { some = is.some; begins = old }) equal array
+      | inr e ↦ ap (λ l. words_in (state_of l) array) (sym e)
     ]
 
     pub longer_kept : IsKept eq hash place Longer
@@ -112,5 +130,11 @@ module _ {K V S : Type 0} (eq : K → K → Bool) (hash : S → K → ℕ) (plac
         | inl old ↦ kept.lasts front next is old
         | inr e ↦ subst (λ l. Lasts eq Place (state_of front) (state_of l)) (sym e)
             (to_longer front (record { some = is.some; begins = subst (λ l. IsPrefix front l) e is.begins }))
+      ];
+      still = λ front next is begins equal array. elim (prefix_more next log note begins) [
+        | inl old ↦ kept.still front next is old equal array
+        | inr e ↦ ap (λ l. words_in (state_of l) array) e
+            ∙ still_longer front (record { some = is.some; begins = subst (λ l. IsPrefix front l) e is.begins })
+            (ap (λ l. length (entries_of l)) (sym e) ∙ equal) array
       ];
     }

@@ -1,5 +1,5 @@
 -- Whole steps keep the rule.
-use Rattle.std.proofs.Common.{◌≡◌, ℕ, ◌-◌, ◌^◌, ◌<◌, ◌≤◌, Bool, true, false, List, [], ◌∷◌, ◌++◌, map, length, set, Option, Some, suc, refl, sym, ap, subst, ◌∙◌, arith}
+use Rattle.std.proofs.Common.{◌≡◌, ℕ, ◌-◌, ◌^◌, ◌<◌, ◌≤◌, Bool, true, false, List, [], ◌∷◌, ◌++◌, map, length, set, Option, Some, suc, refl, sym, ap, subst, ◌∙◌, arith, length-append}
 use Rattle.std.proofs.lemmas.List.{append-nil, length-map}
 use Rattle.std.specs.List.{slice_get}
 use Rattle.std.specs.Option.{option_map, option_to_list}
@@ -12,12 +12,12 @@ use Rattle.moka_pairs.specs.Pairs.{pair_at}
 use Rattle.moka_history.specs.declared.note.Note.{Note}
 use Rattle.moka_history.specs.declared.note.Note.TheVariants.{Announced, Changed}
 use Rattle.moka_history.specs.Entries.{Entry}
-use Rattle.moka_history.specs.States.{Door, Ticket, State, after, key_at, unopened}
+use Rattle.moka_history.specs.States.{Door, Ticket, State, after, key_at, unopened, words_in}
 use Rattle.moka_history.specs.Logs.{entries_of, entry_with, state_of}
 use Rattle.moka_history.specs.Cells.{cell_of, cells_of, drawn, number_of}
 use Rattle.moka_history.specs.Rules.{IsGood, Lasts, IsKept, Holds}
 use Rattle.moka_history.specs.Keeping.{IsDivided, Exchanges}
-use Rattle.moka_history.proofs.Announcing.{announced_good, announced_lasts}
+use Rattle.moka_history.proofs.Announcing.{announced_good, announced_lasts, announced_words}
 use Rattle.moka_history.proofs.Exchanged.{exchanged}
 use Rattle.moka_history.proofs.Folds.{entries_more, state_more}
 use Rattle.moka_history.proofs.Fronts.{good_now}
@@ -38,7 +38,8 @@ module _ {K V S : Type 0} (eq : K → K → Bool) (hash : S → K → ℕ) (plac
 
   -- after one note more, with these entries
   module _ (note : Note K V S) (es : List (Entry K V)) (entries_are : entries_of (log ++ note ∷ []) ≡ es)
-      (good_then : IsGood eq (hash kept.hasher) Place (after now note) es) (lasts_then : Lasts eq Place now (after now note)) where
+      (good_then : IsGood eq (hash kept.hasher) Place (after now note) es) (lasts_then : Lasts eq Place now (after now note))
+      (words_then : length es ≡ length (entries_of log) → (array : ℕ) → words_in (after now note) array ≡ words_in now array) where
     state_is : state_of (log ++ note ∷ []) ≡ after now note
     state_is = state_more unopened log note
 
@@ -47,6 +48,7 @@ module _ {K V S : Type 0} (eq : K → K → Bool) (hash : S → K → ℕ) (plac
         (subst (λ xs. IsGood eq (hash kept.hasher) Place (state_of (log ++ note ∷ [])) xs) (sym entries_are)
         (subst (λ s. IsGood eq (hash kept.hasher) Place s es) (sym state_is) good_then))
         (subst (λ s. Lasts eq Place now s) (sym state_is) lasts_then)
+        (λ equal array. ap (λ s. words_in s array) state_is ∙ words_then (ap (λ xs. length xs) (sym entries_are) ∙ equal) array)
 
     pub holds_then : (new : List Cell) → new ≡ cells_of (after now note) → Holds eq hash place new (log ++ note ∷ [])
     holds_then new is = (is ∙ ap cells_of (sym state_is), kept_then)
@@ -75,6 +77,7 @@ module _ {K V S : Type 0} (eq : K → K → Bool) (hash : S → K → ℕ) (plac
       holds_then announced (entries_of log) (entries_more unopened log announced ∙ append-nil (entries_of log))
           (announced_good S eq divided.laws (hash kept.hasher) Place (divided.hashed kept.hasher) now (entries_of log) good ticket pair is small)
           (announced_lasts S eq divided.laws (hash kept.hasher) Place (divided.hashed kept.hasher) now (entries_of log) good ticket pair is small)
+          (λ equal. announced_words S eq divided.laws (hash kept.hasher) Place (divided.hashed kept.hasher) now (entries_of log) good ticket pair is small)
           (set cells 0 (suc (drawn now), true) ++ (0, false) ∷ []) cells_then,
       ap (λ s. slice_get s.cells (length cells)) (state_more unopened log announced)
           ∙ (ap (slice_get (now.cells ++ Ticket ticket false ∷ [])) long ∙ last_get now.cells (Ticket ticket false)),
@@ -104,6 +107,7 @@ module _ {K V S : Type 0} (eq : K → K → Bool) (hash : S → K → ℕ) (plac
         let entries_then : entries_of (log ++ changed ∷ []) ≡ entries_of log ++ entry_with now.pairs ticket from to k ∷ [] =
         entries_more unopened log changed ∙ ap (λ o. entries_of log ++ option_to_list o) entry in (
           holds_then changed (entries_of log ++ entry_with now.pairs ticket from to k ∷ []) entries_then good_then lasts_then
+              (λ equal array. absurd (let long = length-append (entries_of log) (entry_with now.pairs ticket from to k ∷ []) in omega (arith, equal, long)))
               (set (set cells bucket (number_of to, true)) own (0, true))
               (ap (λ cs. set (set cs bucket (number_of to, true)) own (0, true)) are ∙ cells_then (drawn now)),
           (k, is, same, entries_then),

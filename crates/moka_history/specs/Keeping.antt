@@ -1,5 +1,5 @@
 -- What holds of the rule: laws of whole steps, of fronts, and of what a caller finds after one.
-use Rattle.std.specs.Prelude.{◌≡◌, ℕ, suc, ◌*◌, ◌^◌, ◌<◌, ◌≤◌, Bool, true, false, cond, List, [], ◌∷◌, ◌++◌, length, replicate, Option, Some, slice_set}
+use Rattle.std.specs.Prelude.{◌≡◌, ◌≢◌, ℕ, suc, ◌+◌, ◌*◌, ◌^◌, ◌<◌, ◌≤◌, Bool, true, false, cond, List, [], ◌∷◌, ◌++◌, length, replicate, Option, Some, IsSome, slice_set}
 use Rattle.std.specs.Cmp.{IsEquivalence}
 use Rattle.std.specs.Int.{IsPowerOfTwo}
 use Rattle.std.specs.List.{slice_get}
@@ -9,6 +9,7 @@ use Rattle.logbook.specs.Pages.{Cell, cell}
 use Rattle.moka_words.specs.declared.words.Word.{Word}
 use Rattle.moka_words.specs.Words.{node_of, word_at}
 use Rattle.moka_words.specs.Arrays.{bucket_at}
+use Rattle.moka_words.specs.Effect.{Memory}
 use Rattle.moka_growth.specs.Calls.{Call, Change}
 use Rattle.moka_growth.specs.Fits.{Rests}
 use Rattle.moka_growth.specs.Maps.{Finds}
@@ -17,11 +18,11 @@ use Rattle.moka_pairs.specs.Pairs.{pair_at}
 use Rattle.moka_pairs.specs.Segments.{FitsAll, IsHashed}
 use Rattle.moka_history.specs.declared.note.Note.{Note}
 use Rattle.moka_history.specs.declared.note.Note.TheVariants.{Opened, Announced, Changed}
-use Rattle.moka_history.specs.Entries.{map_after}
+use Rattle.moka_history.specs.Entries.{Entry, map_after}
 use Rattle.moka_history.specs.States.{Ticket, State, key_at, memory_of, words_in}
 use Rattle.moka_history.specs.Logs.{entries_of, entry_with, state_of}
 use Rattle.moka_history.specs.Cells.{number_of, drawn}
-use Rattle.moka_history.specs.Rules.{made_on, keys_of, Lasts, IsFront, IsOpenedFor, IsKept, Holds}
+use Rattle.moka_history.specs.Rules.{WasPut, made_on, keys_of, Lasts, IsFront, IsOpenedFor, IsKept, Holds}
 
 -- equal keys have one hash and one segment, whichever the hash builder is
 pub record IsDivided {K S : Type 0} (eq : K → K → Bool) (hash : S → K → ℕ)
@@ -53,15 +54,27 @@ LookKeeps K V S =
     (k : ℕ) → k < length cells → (cell cells k).1 ≡ true →
     Holds eq hash place (slice_set cells k ((cell cells k).0, true)) log
 
--- the cells of an array's places hold its words, at home
+-- the door's cell counts the tickets drawn, the cells of an array's places hold its words, and that of
+-- a ticket says whether it is home
 abbrev pub CellsHoldWords : (K V S : Type 0) → Type 0
 CellsHoldWords K V S =
     (eq : K → K → Bool) (hash : S → K → ℕ) (place : S → ℕ → K → ℕ) →
     (cells : List Cell) (log : List (Note K V S)) → Holds eq hash place cells log →
     let s : State K V = state_of log in
-    (cell cells 0 ≡ (drawn s, true)) × (0 < length cells) ×
-    ((array index k : ℕ) → slice_get (s.arrays array) index ≡ Some k →
+    ((0 < length cells) × (cell cells 0 ≡ (drawn s, true)))
+    × ((array index k : ℕ) → slice_get (s.arrays array) index ≡ Some k →
     (k < length cells) × (cell cells k ≡ (number_of (word_at (words_in s array) index), true)))
+    × ((k n : ℕ) (home : Bool) → slice_get s.cells k ≡ Some (Ticket n home) →
+    (k < length cells) × (cell cells k ≡ (0, home)))
+
+-- an array of the opening has its row of cells, and its length
+abbrev pub ArraysHaveRows : (K V S : Type 0) → Type 0
+ArraysHaveRows K V S =
+    (eq : K → K → Bool) (hash : S → K → ℕ) (place : S → ℕ → K → ℕ) →
+    (log : List (Note K V S)) → (kept : IsKept eq hash place log) → (i : ℕ) → i < kept.segments →
+    ((index : ℕ) → index < kept.size →
+    slice_get ((state_of log).arrays (suc i)) index ≡ Some (1 + i * kept.size + index))
+    × (length (words_in (state_of log) (suc i)) ≡ kept.size)
 
 -- two words of small nodes that have one number are one
 abbrev pub IsSmall : Word → Type 0
@@ -123,17 +136,20 @@ ChangingKeeps K V S =
     × (eq key k ≡ true)
     × (entries_of more ≡ entries_of log ++ entry_with (state_of log).pairs ticket from to k ∷ []))
 
--- a call that fitted after a front fits after the log
+-- What a call knew with the keys of a front it knows with those of the log. Where it fits the memory of
+-- a front, with these, it fits that of the log.
 abbrev pub CallsStillFit : (K V S : Type 0) → Type 0
 CallsStillFit K V S =
     (eq : K → K → Bool) (hash : S → K → ℕ) (place : S → ℕ → K → ℕ) → IsDivided eq hash place →
     (log front : List (Note K V S)) → (kept : IsKept eq hash place log) → IsFront front log →
     (i : ℕ) → i < kept.segments → (key : Option K) (c : Call) →
-    IsHashed (hash kept.hasher) key c → Rests c.point →
     let p : K → ℕ = place kept.hasher kept.segments in
-    FitsAll eq (hash kept.hasher) (keys_of p (state_of front) i) key
-    (memory_of (state_of front) i) c →
-    FitsAll eq (hash kept.hasher) (keys_of p (state_of log) i) key (memory_of (state_of log) i) c
+    let known : ℕ → Option K = keys_of p (state_of log) i in
+    ((m : Memory) → FitsAll eq (hash kept.hasher) (keys_of p (state_of front) i) key m c →
+    FitsAll eq (hash kept.hasher) known key m c)
+    × (IsHashed (hash kept.hasher) key c → Rests c.point →
+    FitsAll eq (hash kept.hasher) known key (memory_of (state_of front) i) c →
+    FitsAll eq (hash kept.hasher) known key (memory_of (state_of log) i) c)
 
 -- what a call found under its key is what the map after the entries has there
 abbrev pub FoundIsHistory : (K V S : Type 0) → Type 0
@@ -165,3 +181,33 @@ TicketsAreSpentOnce K V S =
     made_on ticket (entries_of log) ≡ cond home 1 0)
     × ((front : List (Note K V S)) → IsFront front log → made_on ticket (entries_of front) ≡ 1 →
     made_on ticket (entries_of log) ≡ 1)
+
+-- A word that isn't as it was after a front was changed by an entry past the front, on another ticket
+-- than one whose cell isn't home.
+abbrev pub WordsChangeByEntries : (K V S : Type 0) → Type 0
+WordsChangeByEntries K V S =
+    (eq : K → K → Bool) (hash : S → K → ℕ) (place : S → ℕ → K → ℕ) →
+    (log front : List (Note K V S)) → IsKept eq hash place log → IsFront front log →
+    (array index : ℕ) →
+    word_at (words_in (state_of log) array) index
+    ≢ word_at (words_in (state_of front) array) index →
+    (e : Entry K V) × (slice_get (entries_of log) (length (entries_of front)) ≡ Some e)
+    × ((own ticket : ℕ) → slice_get (state_of log).cells own ≡ Some (Ticket ticket false) →
+    e.ticket ≢ ticket)
+
+-- puts of so many different keys of one segment
+pub record ArePut {K V : Type 0} (eq : K → K → Bool) (place : K → ℕ) (es : List (Entry K V))
+    (segment count : ℕ) : Type 0 where
+  pub key : (n : ℕ) → n < count → K
+  pub own : (n : ℕ) (below : n < count) → place (key n below) ≡ segment
+  pub put : (n : ℕ) (below : n < count) → WasPut eq es (key n below)
+  pub differ : (n m : ℕ) (b : n < count) (d : m < count) → eq (key n b) (key m d) ≡ true → n ≡ m
+
+-- an array of which each word names a node was filled by puts of as many keys
+abbrev pub FullArrayWasPut : (K V S : Type 0) → Type 0
+FullArrayWasPut K V S =
+    (eq : K → K → Bool) (hash : S → K → ℕ) (place : S → ℕ → K → ℕ) →
+    (log : List (Note K V S)) → (kept : IsKept eq hash place log) → (i : ℕ) → i < kept.segments →
+    ((index : ℕ) → index < kept.size →
+    IsSome (node_of (word_at (words_in (state_of log) (suc i)) index))) →
+    ArePut eq (place kept.hasher kept.segments) (entries_of log) i kept.size

@@ -1,17 +1,18 @@
 -- The rule of a table's book: what its cells and its log keep.
-use Rattle.std.specs.Prelude.{◌≡◌, ◌↔◌, ℕ, ◌^◌, ◌==◌, ◌<◌, ◌≤◌, Bool, true, cond, List, ◌∷◌, map, length, Option, Some, None}
+use Rattle.std.specs.Prelude.{◌≡◌, ◌↔◌, ℕ, suc, ◌^◌, ◌==◌, ◌<◌, ◌≤◌, Bool, true, cond, List, ◌∷◌, map, length, Option, Some, None, IsSome}
 use Rattle.std.specs.List.{slice_get}
 use mathlib.Core.List.{IsPrefix}
 use Rattle.logbook.specs.Pages.{Cell}
 use Rattle.moka_hist.specs.Finite.{times}
 use Rattle.moka_words.specs.declared.words.Word.{Word}
+use Rattle.moka_words.specs.Words.{node_of, word_at}
 use Rattle.moka_pairs.specs.Keys.{Agrees}
 use Rattle.moka_pairs.specs.Pairs.{segment_keys, map_of}
 use Rattle.moka_pairs.specs.Segments.{SoundAll, LaterAll}
 use Rattle.moka_history.specs.declared.note.Note.{Note}
 use Rattle.moka_history.specs.declared.note.Note.TheVariants.{Opened}
 use Rattle.moka_history.specs.Entries.{Entry, IsLegal, map_after}
-use Rattle.moka_history.specs.States.{Door, Bucket, Ticket, State, IsPlaced, memory_of}
+use Rattle.moka_history.specs.States.{Door, Bucket, Ticket, State, IsPlaced, memory_of, words_in}
 use Rattle.moka_history.specs.Logs.{entries_of, state_of}
 use Rattle.moka_history.specs.Cells.{cells_of}
 
@@ -41,6 +42,12 @@ module _ {K V : Type 0} where
     pub entries : (n : ℕ) → s.last < n → made_on n es ≡ 0
     pub once : (n : ℕ) → made_on n es ≤ 1
 
+module _ {K V : Type 0} (eq : K → K → Bool) where
+  -- an entry put a value under the key
+  abbrev pub WasPut : List (Entry K V) → K → Type 0
+  WasPut es key = (n : ℕ) × (e : Entry K V) × (slice_get es n ≡ Some e) × (eq e.key key ≡ true)
+      × IsSome e.put
+
 -- `place` is the segment of a key, `hash` its hash
 module _ {K V : Type 0} (place : K → ℕ) where
   -- the keys of a segment's numbers
@@ -67,11 +74,15 @@ module _ {K V : Type 0} (eq : K → K → Bool) (place : K → ℕ) where
 
 module _ {K V : Type 0} (eq : K → K → Bool) (hash place : K → ℕ) where
   -- What holds of a state and of the entries so far: each segment is sound, whatever keys are still
-  -- to come, the entries are legal, and the map after them is what the words give.
+  -- to come, and its words name keys that were put; the entries are legal, and the map after them is
+  -- what the words give.
   pub record IsGood (s : State K V) (es : List (Entry K V)) : Type 0 where
     pub owned : IsOwned s
     pub drawn : IsDrawn s es
     pub sound : (i : ℕ) → i < s.segments → SoundAll eq hash (keys_of place s i) (memory_of s i)
+    pub puts : (i index n : ℕ) (p : K × V) → i < s.segments →
+        node_of (word_at (words_in s (suc i)) index) ≡ Some n → s.pairs n ≡ Some p →
+        WasPut eq es p.0
     pub legal : IsLegal eq es
     pub map_is : (q : K) → place q < s.segments → map_after eq es q ≡ pair_in eq place s (place q) q
 
@@ -88,7 +99,7 @@ module _ {K V S : Type 0} where
 
 -- `hash` and `place` are those of a hash builder; `place` is that of so many segments
 module _ {K V S : Type 0} (eq : K → K → Bool) (hash : S → K → ℕ) (place : S → ℕ → K → ℕ) where
-  -- after each front of it all was good, and has lasted
+  -- after each front of it all was good, and has lasted; words change by entries alone
   pub record IsKept (log : List (Note K V S)) : Type 0 where
     pub segments : ℕ
     pub size : ℕ
@@ -98,6 +109,9 @@ module _ {K V S : Type 0} (eq : K → K → Bool) (hash : S → K → ℕ) (plac
         IsGood eq (hash hasher) (place hasher segments) (state_of front) (entries_of front)
     pub lasts : (front next : List (Note K V S)) → IsFront front next → IsPrefix next log →
         Lasts eq (place hasher segments) (state_of front) (state_of next)
+    pub still : (front next : List (Note K V S)) → IsFront front next → IsPrefix next log →
+        length (entries_of next) ≡ length (entries_of front) → (array : ℕ) →
+        words_in (state_of next) array ≡ words_in (state_of front) array
 
   -- the rule
   abbrev pub Holds : (cells : List Cell) → (log : List (Note K V S)) → Type 0

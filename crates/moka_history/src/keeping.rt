@@ -1,13 +1,19 @@
 //! Laws of the rule that the cells of a book keep with its log.
 
-ghost use Rattle.moka_history.specs.Keeping.{AnnouncingKeeps, CellsHoldWords, ChangingKeeps, LookKeeps, NumbersTellWords, OpeningIsKept};
+ghost use Rattle.moka_history.specs.Keeping.{AnnouncingKeeps, ArraysHaveRows, CellsHoldWords, ChangingKeeps, LookKeeps, NumbersTellWords, OpeningIsKept};
 
 /// The book of a table that was just opened keeps the rule.
 pub fn opening_is_kept<K, V, S>()
     ensures kept { OpeningIsKept K V S }
 {}
 
-/// The cells of arrays hold the words, by their numbers; the first cell counts the tickets drawn.
+/// An array of the opening has a row of cells.
+pub fn arrays_have_rows<K, V, S>()
+    ensures rows { ArraysHaveRows K V S }
+{}
+
+/// The first cell counts the tickets drawn, the cells of arrays hold the words by their numbers, and
+/// that of a ticket says whether it is home.
 pub fn cells_hold_words<K, V, S>()
     ensures hold { CellsHoldWords K V S }
 {}

@@ -1,6 +1,6 @@
 //! Laws of fronts: what was found after one stays true.
 
-ghost use Rattle.moka_history.specs.Keeping.{CallsStillFit, FoundIsHistory, FrontIsKept, FrontLasts, TicketsAreSpentOnce, WordsNamePairs};
+ghost use Rattle.moka_history.specs.Keeping.{CallsStillFit, FoundIsHistory, FrontIsKept, FrontLasts, FullArrayWasPut, TicketsAreSpentOnce, WordsChangeByEntries, WordsNamePairs};
 
 /// Each front of a kept log is kept.
 pub fn front_is_kept<K, V, S>()
@@ -13,7 +13,7 @@ pub fn front_lasts<K, V, S>()
     ensures lasts { FrontLasts K V S }
 {}
 
-/// A call that fitted after a front fits after the log.
+/// A call that fitted after a front fits after the log, whichever keys have come.
 pub fn calls_still_fit<K, V, S>()
     ensures fit { CallsStillFit K V S }
 {}
@@ -31,4 +31,15 @@ pub fn words_name_pairs<K, V, S>()
 /// A ticket has at most one entry, and it stays the only one.
 pub fn tickets_are_spent_once<K, V, S>()
     ensures once { TicketsAreSpentOnce K V S }
+{}
+
+/// A word that isn't as it was after a front was changed by an entry past the front.
+pub fn words_change_by_entries<K, V, S>()
+    ensures change { WordsChangeByEntries K V S }
+{}
+
+/// An array of which each word names a node was filled by puts of as many different keys of the
+/// segment.
+pub fn full_array_was_put<K, V, S>()
+    ensures puts { FullArrayWasPut K V S }
 {}

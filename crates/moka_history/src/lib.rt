@@ -16,12 +16,12 @@ mod telling;
 
 pub use changing::{announced_keeps_words, changed_sets_word, opened_is_sound};
 pub use keeping::{
-    announcing_keeps, cells_hold_words, changing_keeps, look_keeps, numbers_tell_words,
-    opening_is_kept,
+    announcing_keeps, arrays_have_rows, cells_hold_words, changing_keeps, look_keeps,
+    numbers_tell_words, opening_is_kept,
 };
 pub use lasting::{
-    calls_still_fit, found_is_history, front_is_kept, front_lasts, tickets_are_spent_once,
-    words_name_pairs,
+    calls_still_fit, found_is_history, front_is_kept, front_lasts, full_array_was_put,
+    tickets_are_spent_once, words_change_by_entries, words_name_pairs,
 };
 pub use note::Note;
 pub use recording::{change_is_maps, legal_goes_on, legal_was_legal, map_goes_on};
