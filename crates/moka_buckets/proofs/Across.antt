@@ -14,7 +14,8 @@ use Rattle.moka_buckets.specs.declared.node.Node.{Node}
 use Rattle.moka_buckets.specs.declared.part.Part.{Part}
 use Rattle.moka_buckets.specs.declared.bucket_call.BucketCall.{BucketCall}
 use Rattle.moka_buckets.specs.declared.keys_call.KeysCall.{KeysCall}
-use Rattle.moka_buckets.specs.Nodes.{same_by, key_in, Agrees}
+use Rattle.moka_pairs.specs.Keys.{same_by}
+use Rattle.moka_buckets.specs.Nodes.{key_in, pair_in, Agrees}
 use Rattle.moka_buckets.specs.Tables.{map_of, left_in, IsWell}
 use Rattle.moka_buckets.specs.Steps.{FitsCall}
 use Rattle.moka_buckets.specs.Walks.{carried, is_ended, listed_by, node_next, word_next, Falls, Covers, Lead, WalksOn}
@@ -22,7 +23,10 @@ use Rattle.moka_buckets.specs.Parts.{memory_at, keys_at, peak_at, map_at, map_ov
 use Rattle.moka_buckets.specs.Keys.{Leads, FitsKeys, FitsThere, ListsIt, CoversIt, WalksOver, left_keys, nodes_of, word_over}
 use Rattle.moka_buckets.proofs.Placed.{get-set-same, get-set-other}
 use Rattle.moka_buckets.proofs.Spread.{keys_set}
-use Rattle.moka_buckets.proofs.Led.{has_key, later_same, runs_last, walks_last, covers_last}
+use Rattle.moka_pairs.proofs.Mapped.{has_key}
+use Rattle.moka_pairs.proofs.Steps.{later_same}
+use Rattle.moka_buckets.proofs.Turns.{runs_last}
+use Rattle.moka_buckets.proofs.Led.{walks_last, covers_last}
 use Rattle.moka_buckets.proofs.Elsewhere.{lists_as, never_there, walks_at}
 
 one_item : {A : Type 0} {x y : A} → Some x ≡ Some y → x ≡ y
@@ -56,7 +60,7 @@ module _ {K V : Type 0} (eq : K → K → Bool) (laws : IsEquivalence eq) (hash 
         still_fits = subst (λ m. WalksOn eq hash m p.nodes.items after.table) (sym memory)
             (subst (λ s. WalksOn eq hash (memory_at p) p.nodes.items s) (sym table) walks);
         later = λ keys agrees. subst (λ m. LaterMemory (same_by eq keys) (memory_at p) m) (sym memory)
-            (later_same eq laws hash respects p.nodes.items (memory_at p) keys);
+            (later_same eq laws hash respects (key_in p.nodes.items) (memory_at p) keys agrees);
       }
 
   nodes : new.nodes.items ≡ p.nodes.items
@@ -176,7 +180,7 @@ module _ {K V : Type 0} (eq : K → K → Bool) (laws : IsEquivalence eq) (hash 
           let was : IsSome (map_at eq p key) = subst IsSome (ap (λ o. option_map_or (λ x. map_at eq x key) o None) (ap (slice_get parts) at ∙ here)) has in
           subst (λ xs. Covers eq (memory_at new) xs key c.table) (sym nodes)
           (covers_last eq laws hash respects p.nodes.items (memory_at p) (memory_at new) (well.each i p there).well.sound stays.later stays.still_well.sound key
-          (λ keys agrees. has_key eq laws hash respects p.nodes.items (memory_at p) key was keys agrees) c.table
+          (λ keys agrees. has_key eq laws hash respects (key_in p.nodes.items) (pair_in p.nodes.items) (memory_at p) key was keys agrees) c.table
           (walks_at eq hash parts c p here f) (subst (λ x. Covers eq (memory_at x) x.nodes.items key c.table) (one_item (sym e ∙ here)) covered))
 
   after_there : slice_get (set parts i new) after.segment ≡ Some new

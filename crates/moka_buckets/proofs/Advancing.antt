@@ -14,13 +14,15 @@ use Rattle.moka_calls.specs.Standing.{Awaits, Wants, after}
 use Rattle.moka_calls.proofs.Lengths.{seen_is_taken}
 use Rattle.moka_buckets.specs.declared.array.Arrays.{Arrays}
 use Rattle.moka_buckets.specs.declared.node.Node.{Node}
-use Rattle.moka_buckets.specs.Nodes.{hash_by, same_by, mine_by, own_by, key_in, pair_at, Agrees}
+use Rattle.moka_pairs.specs.Keys.{hash_by, same_by, mine_by, own_by}
+use Rattle.moka_buckets.specs.Nodes.{key_in, pair_at, Agrees}
 use Rattle.moka_buckets.specs.Arrays.{memory_of}
 use Rattle.moka_buckets.specs.Making.{CanMake}
 use Rattle.moka_buckets.specs.Tables.{choose, found_by, IsWell, RunsOn}
 use Rattle.moka_buckets.specs.Putting.{puts_at}
 use Rattle.moka_buckets.specs.Steps.{answered, asked, turn_by, Turned}
-use Rattle.moka_buckets.proofs.Turning.{agrees_now, sound_after}
+use Rattle.moka_pairs.proofs.Names.{agrees_now}
+use Rattle.moka_pairs.proofs.Steps.{sound_after}
 use Rattle.moka_buckets.proofs.Turns.{sees_of, turned}
 use Rattle.moka_buckets.proofs.Possible.{are_short, can_make}
 
@@ -30,8 +32,8 @@ module _ {K V : Type 0} (eq : K → K → Bool) (laws : IsEquivalence eq) (hash 
   pub can_access : (step : Step) (a : Access) → RunsOn eq hash (memory_of s) nodes o stored step → Wants step a → CanMake (memory_of s) nodes a
   can_access (Decided e) a runs wants = absurd runs
   can_access (Going c) a runs wants = subst (λ x. CanMake (memory_of s) nodes x) (sym wants)
-      (can_make eq hash nodes s (well.sound (key_in nodes) (agrees_now nodes)) well.counted o (own_by eq (key_in nodes) (key_of o)) c.hash stored c.point
-      runs.rests runs.puts (runs.fits (key_in nodes) (agrees_now nodes)))
+      (can_make eq hash nodes s (well.sound (key_in nodes) (agrees_now (key_in nodes))) well.counted o (own_by eq (key_in nodes) (key_of o)) c.hash stored c.point
+      runs.rests runs.puts (runs.fits (key_in nodes) (agrees_now (key_in nodes))))
 
   module _ (t : Arrays) (saw : Seen) where
     abbrev Saw : Access → Type 0
@@ -42,12 +44,12 @@ module _ {K V : Type 0} (eq : K → K → Bool) (laws : IsEquivalence eq) (hash 
     can_take (Decided e) a runs wants effect counts = absurd runs
     can_take (Going c) a runs wants effect counts =
         let keys = key_in nodes in
-        let now = agrees_now nodes in
+        let now = agrees_now (key_in nodes) in
         let effect_c : Saw (access_of c) = subst Saw wants effect in
         let counts_c : Recounts (access_of c) saw (memory_of s) (memory_of t) = subst (λ x. Recounts x saw (memory_of s) (memory_of t)) wants counts in
         seen_is_taken (hash_by hash keys) (same_by eq keys) (mine_by keys) (own_by eq keys (key_of o)) (access_of c) saw (memory_of s) (memory_of t)
         (well.sound keys now)
-        (sound_after eq laws hash respects nodes (key_of o) c saw (memory_of s) (memory_of t) well.sound
+        (sound_after eq laws hash respects (key_in nodes) (Some (key_of o)) c saw (memory_of s) (memory_of t) well.sound
         (sees_of eq laws hash respects nodes first peak o stored c saw (memory_of s) (memory_of t) well runs effect_c counts_c) keys now)
         (are_short s) (are_short t) (effect_c keys now)
 

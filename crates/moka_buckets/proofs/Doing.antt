@@ -17,11 +17,13 @@ use Rattle.moka_growth.proofs.Shortness.{short_grows}
 use Rattle.moka_table.specs.Map.{Pairs, SameMap}
 use Rattle.moka_buckets.specs.declared.node.Node.{Node}
 use Rattle.moka_buckets.specs.declared.bucket_call.BucketCall.{BucketCall}
-use Rattle.moka_buckets.specs.Nodes.{Agrees}
+use Rattle.moka_buckets.specs.Nodes.{key_in, Agrees}
 use Rattle.moka_buckets.specs.Tables.{map_of, stored_by, IsWell, RunsOn}
 use Rattle.moka_buckets.specs.Putting.{node_by, Stays}
 use Rattle.moka_buckets.specs.Steps.{FitsCall, Turned, CanBegin, Done}
-use Rattle.moka_buckets.proofs.Led.{later_same}
+use Rattle.moka_pairs.proofs.Names.{agrees_through}
+use Rattle.moka_pairs.proofs.Steps.{later_same}
+use Rattle.moka_buckets.proofs.Known.{keys_grow}
 use Rattle.moka_buckets.proofs.Placed.{get-front}
 use Rattle.moka_buckets.proofs.Growing.{made_from, well_more, runs_more, map_more, runs_named, stored_key}
 
@@ -107,7 +109,7 @@ module _ {K V : Type 0} (eq : K → K → Bool) (laws : IsEquivalence eq) (hash 
 
   -- keys of the nodes that there are now are keys of those before
   pub agrees_before : (keys : ℕ → Option K) → Agrees keys more → Agrees keys nodes
-  agrees_before keys agrees n node there = agrees n node (kept.grows n node there)
+  agrees_before keys agrees = agrees_through keys (key_in more) (key_in nodes) agrees (keys_grow nodes more kept.grows)
 
   -- what the operation moves from a map it moves from the same map
   moves_from : (t : TableTurn K V) (new : Memory) → MovesKey eq before.operation (map_of eq old more) old.len t (map_of eq new more) new.len →
@@ -155,7 +157,7 @@ undone eq laws hash first peak old nodes more before after (Err e) is can same c
   moves = tt;
   going = tt;
   others = λ other f. subst (λ xs. FitsCall eq hash old xs other) (sym same) f;
-  later = λ keys agrees. later_same eq laws hash can.respects nodes old keys;
+  later = later_same eq laws hash can.respects (key_in more) old;
   grows = λ n node at. ap (λ xs. slice_get xs n) same ∙ at;
   stays = inl (same, ap (λ b. b.node) call_same);
   err = (

@@ -14,7 +14,8 @@ use Rattle.moka_growth.specs.Sound.{IsRoot, IsSound}
 use Rattle.moka_growth.proofs.Making.{none_is_sound, one_is_sound, empty_is_root}
 use Rattle.moka_buckets.specs.declared.array.Arrays.{Arrays}
 use Rattle.moka_buckets.specs.declared.part.Part.{Part}
-use Rattle.moka_buckets.specs.Nodes.{hash_by, same_by, mine_by, own_by, key_in, pair_at}
+use Rattle.moka_pairs.specs.Keys.{hash_by, same_by, mine_by, own_by}
+use Rattle.moka_buckets.specs.Nodes.{key_in, pair_at}
 use Rattle.moka_buckets.specs.Arrays.{memory_of, words_in, ArePlaced}
 use Rattle.moka_buckets.proofs.Placed.{get-back}
 use Rattle.moka_buckets.specs.Building.{HasNone, HasRoot, IsFresh, AreFresh}

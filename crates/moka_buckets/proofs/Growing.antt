@@ -2,8 +2,7 @@
 use Rattle.std.proofs.Common.{◌≡◌, ℕ, Bool, true, false, cond, List, [], ◌∷◌, ◌++◌, length, Option, Some, None, is_some, IsSome, inl, inr, refl, sym, ap, subst, ◌∙◌}
 use Rattle.std.proofs.lemmas.Bool.{false≢true}
 use Rattle.std.specs.Cmp.{IsEquivalence}
-use Rattle.std.specs.Option.{option_map, option_map_or}
-use Rattle.std.specs.List.{find, slice_get}
+use Rattle.std.specs.Option.{option_map}
 use Rattle.moka_hist.specs.Tables.{taken_by}
 use Rattle.moka_hist.specs.declared.records.Stored.{Stored}
 use Rattle.moka_buckets.specs.KeyOps.{key_of}
@@ -15,13 +14,13 @@ use Rattle.moka_words.specs.Words.{stored_in}
 use Rattle.moka_words.specs.Effect.{Memory}
 use Rattle.moka_growth.specs.Calls.{Point, Step, Going, Decided}
 use Rattle.moka_growth.specs.Calls as call
-use Rattle.moka_growth.specs.Maps.{present_nodes, IsPresent, Finds}
 use Rattle.moka_buckets.specs.declared.node.Node.{Node}
-use Rattle.moka_buckets.specs.Nodes.{own_by, key_in, pair_at, Agrees, AreHashed}
+use Rattle.moka_buckets.specs.Nodes.{key_in, pair_at, pair_in, AreHashed}
 use Rattle.moka_buckets.specs.Tables.{Puts, choose, put_by, map_of, stored_by, IsWell, RunsOn}
 use Rattle.moka_buckets.proofs.Placed.{get-front, get-back, get-end}
-use Rattle.moka_buckets.proofs.Found.{found_finds}
-use Rattle.moka_buckets.proofs.Turning.{found_is, present_pair}
+use Rattle.moka_pairs.specs.Keys as known
+use Rattle.moka_pairs.proofs.Grown.{fits_grown, grown_same, map_grown, sound_grown}
+use Rattle.moka_buckets.proofs.Known.{are_keys, keys_grow, pairs_grow}
 
 pub none_of : (o : Option ℕ) → is_some o ≡ false → o ≡ None
 none_of None e = refl
@@ -50,8 +49,11 @@ module _ {K V : Type 0} (eq : K → K → Bool) (laws : IsEquivalence eq) (hash 
   abbrev more : List (Node K V)
   more = nodes ++ x ∷ []
 
-  agrees_before : (keys : ℕ → Option K) → Agrees keys (nodes ++ x ∷ []) → Agrees keys nodes
-  agrees_before keys agrees n node there = agrees n node (get-front nodes (x ∷ []) n node there)
+  grown : known.Agrees (key_in (nodes ++ x ∷ [])) (key_in nodes)
+  grown = keys_grow nodes more (get-front nodes (x ∷ []))
+
+  grown_pairs : known.Agrees (pair_in (nodes ++ x ∷ [])) (pair_in nodes)
+  grown_pairs = pairs_grow nodes more (get-front nodes (x ∷ []))
 
   hashed_more : AreHashed hash nodes → x.hash ≡ hash x.key → AreHashed hash (nodes ++ x ∷ [])
   hashed_more hashed is n node there = elim (get-back nodes x node n there) [
@@ -61,19 +63,14 @@ module _ {K V : Type 0} (eq : K → K → Bool) (laws : IsEquivalence eq) (hash 
 
   pub well_more : (m : Memory) (first peak : ℕ) → x.hash ≡ hash x.key → IsWell eq hash m nodes first peak → IsWell eq hash m (nodes ++ x ∷ []) first peak
   well_more m first peak is well = record {
-    sound = λ keys agrees. well.sound keys (agrees_before keys agrees);
+    sound = sound_grown eq hash (key_in nodes) (key_in more) grown m well.sound;
     hashed = hashed_more well.hashed is;
     counted = well.counted;
     short = well.short;
   }
 
   pub pair_more : (n : ℕ) → IsSome (pair_at nodes (Some n)) → pair_at (nodes ++ x ∷ []) (Some n) ≡ pair_at nodes (Some n)
-  pair_more n has = by (slice_get nodes n) refl has
-    where
-      by : (o : Option (Node K V)) → slice_get nodes n ≡ o → IsSome (option_map {U = K × Stored V} (λ node. (node.key, node.stored)) o) →
-          pair_at (nodes ++ x ∷ []) (Some n) ≡ pair_at nodes (Some n)
-      by None e f = absurd (false≢true f)
-      by (Some node) e f = ap (option_map {U = K × Stored V} (λ node. (node.key, node.stored))) (get-front nodes (x ∷ []) n node e ∙ sym e)
+  pair_more n has = grown_same (pair_in more) (pair_in nodes) grown_pairs n has
 
   -- a choice that changes something is that of the nodes before
   choice_more : (o : KeyOp K V) (stored found : Option ℕ) (w to : Word) → put_by (choose nodes o stored found) w ≡ Some to → choose more o stored found ≡ choose nodes o stored found
@@ -107,7 +104,7 @@ module _ {K V : Type 0} (eq : K → K → Bool) (laws : IsEquivalence eq) (hash 
   runs_more m o stored (Going c) r = record {
     kind = r.kind;
     hashed = r.hashed;
-    fits = λ keys agrees. r.fits keys (agrees_before keys agrees);
+    fits = fits_grown eq hash (key_in nodes) (key_in more) grown (Some (key_of o)) m c r.fits;
     rests = r.rests;
     walks = r.walks;
     puts = puts_more o stored c.point r.puts;
@@ -117,36 +114,8 @@ module _ {K V : Type 0} (eq : K → K → Bool) (laws : IsEquivalence eq) (hash 
   -- the map is that of the nodes before
   pub map_more : (m : Memory) (first peak : ℕ) → x.hash ≡ hash x.key → IsWell eq hash m nodes first peak → (q : K) →
       map_of eq m (nodes ++ x ∷ []) q ≡ map_of eq m nodes q
-  map_more m first peak is well q =
-      ap (pair_at more) (found_is eq laws hash respects more m (well_more m first peak is well).sound q found finds) ∙ same found was
-    where
-      found : Option ℕ
-      found = find (own_by eq (key_in nodes) q) (present_nodes m)
-
-      was : Finds (own_by eq (key_in nodes) q) m found
-      was = found_finds (own_by eq (key_in nodes) q) m
-
-      present : (n : ℕ) → IsPresent m n → IsSome (pair_at nodes (Some n))
-      present n p = present_pair eq laws hash respects nodes m well.sound n p
-
-      own_same : (n : ℕ) → IsPresent m n → own_by eq (key_in more) q n ≡ own_by eq (key_in nodes) q n
-      own_same n p = by (slice_get nodes n) refl (present n p)
-        where
-          by : (o : Option (Node K V)) → slice_get nodes n ≡ o → IsSome (option_map {U = K × Stored V} (λ node. (node.key, node.stored)) o) →
-              own_by eq (key_in more) q n ≡ own_by eq (key_in nodes) q n
-          by None e f = absurd (false≢true f)
-          by (Some node) e f = ap (λ o. option_map_or (eq q) (option_map (λ node. node.key) o) false) (get-front nodes (x ∷ []) n node e ∙ sym e)
-
-      finds_by : (o : Option ℕ) → Finds (own_by eq (key_in nodes) q) m o → Finds (own_by eq (key_in more) q) m o
-      finds_by None f = λ n p. own_same n p ∙ f n p
-      finds_by (Some n) f = (f.0, own_same n f.0 ∙ f.1)
-
-      finds : Finds (own_by eq (key_in more) q) m found
-      finds = finds_by found was
-
-      same : (o : Option ℕ) → Finds (own_by eq (key_in nodes) q) m o → pair_at more o ≡ pair_at nodes o
-      same None f = refl
-      same (Some n) f = pair_more n (present n f.0)
+  map_more m first peak is well q = map_grown eq laws hash respects (key_in nodes) (pair_in nodes) (are_keys nodes) (key_in more) (pair_in more) grown grown_pairs
+      m well.sound q
 
 -- without a node an operation that has one to store makes no change
 choice_none : {K V : Type 0} (nodes : List (Node K V)) (o : KeyOp K V) (found : Option ℕ) → IsSome (stored_by o) → choose nodes o None found ≡ choice.Keep
@@ -178,7 +147,7 @@ runs_named eq hash m nodes x o (Decided e) is r = r
 runs_named {K} {V} eq hash m nodes x o (Going c) is r = record {
   kind = r.kind;
   hashed = r.hashed;
-  fits = λ keys agrees. r.fits keys (λ n node there. agrees n node (get-front nodes (x ∷ []) n node there));
+  fits = fits_grown eq hash (key_in nodes) (key_in (nodes ++ x ∷ [])) (keys_grow nodes (nodes ++ x ∷ []) (get-front nodes (x ∷ []))) (Some (key_of o)) m c r.fits;
   rests = r.rests;
   walks = r.walks;
   puts = puts_none nodes (nodes ++ x ∷ []) o (Some (length nodes)) c.point (subst IsSome (sym is) refl) r.puts;

@@ -5,24 +5,29 @@ use Rattle.std.proofs.lemmas.Option.{slice_get_within}
 use Rattle.std.proofs.Math.ListN.{length-set}
 use Rattle.std.specs.Cmp.{IsEquivalence}
 use Rattle.std.specs.List.{slice_get}
-use Rattle.std.specs.Option.{option_map, option_map_or}
+use Rattle.std.specs.Option.{option_map_or}
 use Rattle.std.specs.declared.alloc.AllocError.{AllocError}
 use Rattle.moka_hist.specs.declared.tables.TableTurn.{TableTurn}
 use Rattle.moka_words.specs.Effect.{Memory}
-use Rattle.moka_growth.specs.Sound.{IsSound}
 use Rattle.moka_growth.specs.Calls.{Step, Going, Decided}
 use Rattle.moka_growth.specs.Listing.{Differ}
 use Rattle.moka_buckets.specs.declared.node.Node.{Node}
 use Rattle.moka_buckets.specs.declared.part.Part.{Part}
 use Rattle.moka_buckets.specs.declared.bucket_call.BucketCall.{BucketCall}
 use Rattle.moka_buckets.specs.declared.keys_call.KeysCall.{KeysCall}
-use Rattle.moka_buckets.specs.Nodes.{is_one_key, hash_by, same_by, own_by, mine_by, key_in, Agrees}
+use Rattle.moka_pairs.specs.Keys.{is_one_key, same_by, own_by}
+use Rattle.moka_pairs.specs.Segments.{SoundAll}
+use Rattle.moka_buckets.specs.Nodes.{key_in, pair_in, Agrees}
 use Rattle.moka_buckets.specs.Tables.{IsWell}
 use Rattle.moka_buckets.specs.Walks.{AreNodes, Covers, WalksOn, listed_in}
 use Rattle.moka_buckets.specs.Parts.{memory_at, keys_at, peak_at, map_at, map_over, segment_of, AreParts, Goes}
 use Rattle.moka_buckets.specs.Keys.{CoversIt, FitsKeys, FitsThere, KeepsKeys, ListsIt}
 use Rattle.moka_buckets.proofs.Placed.{get-set-same, get-set-other}
-use Rattle.moka_buckets.proofs.Led.{has_key, walks_last, covers_last}
+use Rattle.moka_pairs.proofs.Names.{agrees_through}
+use Rattle.moka_pairs.proofs.Grown.{grown_same, sound_grown}
+use Rattle.moka_pairs.proofs.Mapped.{has_key}
+use Rattle.moka_buckets.proofs.Known.{keys_grow}
+use Rattle.moka_buckets.proofs.Led.{walks_last, covers_last}
 use Rattle.moka_buckets.proofs.Elsewhere.{lists_as, named_by, walks_at}
 
 one_item : {A : Type 0} {x y : A} → Some x ≡ Some y → x ≡ y
@@ -32,14 +37,10 @@ one_item d = cc
 module _ {K V : Type 0} (eq : K → K → Bool) (hash : K → ℕ) (nodes more : List (Node K V))
     (grows : (n : ℕ) (node : Node K V) → slice_get nodes n ≡ Some node → slice_get more n ≡ Some node) where
   pub agrees_less : (keys : ℕ → Option K) → Agrees keys more → Agrees keys nodes
-  agrees_less keys agrees n node there = agrees n node (grows n node there)
+  agrees_less keys agrees = agrees_through keys (key_in more) (key_in nodes) agrees (keys_grow nodes more grows)
 
   pub key_more : (n : ℕ) → IsSome (key_in nodes n) → key_in more n ≡ key_in nodes n
-  key_more n has = by (slice_get nodes n) refl has
-    where
-      by : (o : Option (Node K V)) → slice_get nodes n ≡ o → IsSome (option_map (λ node. node.key) o) → key_in more n ≡ key_in nodes n
-      by None e f = absurd (false≢true f)
-      by (Some node) e f = ap (option_map (λ node. node.key)) (grows n node e ∙ sym e)
+  key_more n has = grown_same (key_in more) (key_in nodes) (keys_grow nodes more grows) n has
 
   named_more : (ns : List ℕ) → AreNodes nodes ns → AreNodes more ns
   named_more ns named x n e = subst IsSome (sym (key_more n (named x n e))) (named x n e)
@@ -81,8 +82,8 @@ module _ {K V : Type 0} (eq : K → K → Bool) (laws : IsEquivalence eq) (hash 
   well_old : IsWell eq hash (memory_at p) p.nodes.items first (peak_at p)
   well_old = (well.each i p there).well
 
-  sound_more : (keys : ℕ → Option K) → Agrees keys new.nodes.items → IsSound (hash_by hash keys) (same_by eq keys) (mine_by keys) (memory_at p)
-  sound_more keys agrees = well_old.sound keys (agrees_less eq hash p.nodes.items new.nodes.items goes.done.grows keys agrees)
+  sound_more : SoundAll eq hash (key_in new.nodes.items) (memory_at p)
+  sound_more = sound_grown eq hash (key_in p.nodes.items) (key_in new.nodes.items) (keys_grow p.nodes.items new.nodes.items goes.done.grows) (memory_at p) well_old.sound
 
   walks_new : (s : Step) → WalksOn eq hash (memory_at p) p.nodes.items s → WalksOn eq hash (memory_at new) new.nodes.items s
   walks_new s w = walks_last eq laws hash respects new.nodes.items (memory_at p) (memory_at new)
@@ -93,7 +94,7 @@ module _ {K V : Type 0} (eq : K → K → Bool) (laws : IsEquivalence eq) (hash 
       Covers eq (memory_at new) new.nodes.items key s
   covers_new key has s w covers = covers_last eq laws hash respects new.nodes.items (memory_at p) (memory_at new) sound_more goes.done.later
       (goes.done.well (max (peak_at p) (keys_at new)) (omega arith) (omega arith)).sound key
-      (λ keys agrees. has_key eq laws hash respects p.nodes.items (memory_at p) key has keys
+      (λ keys agrees. has_key eq laws hash respects (key_in p.nodes.items) (pair_in p.nodes.items) (memory_at p) key has keys
       (agrees_less eq hash p.nodes.items new.nodes.items goes.done.grows keys agrees)) s
       (walks_more eq hash p.nodes.items new.nodes.items goes.done.grows (memory_at p) s w)
       (covers_more eq hash p.nodes.items new.nodes.items goes.done.grows (memory_at p) key s covers)

@@ -16,13 +16,14 @@ use Rattle.moka_growth.specs.Listing.{Differ, HasListed}
 use Rattle.moka_buckets.specs.declared.node.Node.{Node}
 use Rattle.moka_buckets.specs.declared.part.Part.{Part}
 use Rattle.moka_buckets.specs.declared.keys_call.KeysCall.{KeysCall}
-use Rattle.moka_buckets.specs.Nodes.{is_one_key, hash_by, same_by, own_by, key_in}
+use Rattle.moka_pairs.specs.Keys.{is_one_key, hash_by, same_by, own_by}
+use Rattle.moka_buckets.specs.Nodes.{key_in}
 use Rattle.moka_buckets.specs.Parts.{memory_at, peak_at, AreParts}
 use Rattle.moka_buckets.specs.Walks.{is_ended, owns_none, listed_by, AreNodes, Covers, WalksOn}
 use Rattle.moka_buckets.specs.Keys.{FitsKeys, FitsThere, FitsNowhere, ListsIt, CoversIt, IsListing, keys_in, left_keys, nodes_of}
 use Rattle.moka_buckets.proofs.Beginning.{some_at}
 use Rattle.moka_buckets.proofs.Elsewhere.{never_there}
-use Rattle.moka_buckets.proofs.Turning.{agrees_now}
+use Rattle.moka_pairs.proofs.Names.{agrees_now}
 
 no_item : {A : Type 0} {x : A} → None ≡ Some x → ⊥
 no_item d = cc
@@ -161,7 +162,7 @@ module _ {K V : Type 0} (eq : K → K → Bool) (hash : K → ℕ) where
       left_in first peak m s ≤ most_steps first peak
   few_left m nodes first peak (Decided e) short walks = omega arith
   few_left m nodes first peak (Going c) short walks =
-      left_is_bounded (hash_by hash (key_in nodes)) owns_none c m first peak (walks.fits (key_in nodes) (agrees_now nodes)) short
+      left_is_bounded (hash_by hash (key_in nodes)) owns_none c m first peak (walks.fits (key_in nodes) (agrees_now (key_in nodes))) short
 
   -- a call that fits has few steps left
   pub keys_bounded : (first : ℕ) (parts : List (Part K V)) (most len : ℕ) → AreParts eq hash parts first most len → (c : KeysCall) → FitsKeys eq hash parts c →

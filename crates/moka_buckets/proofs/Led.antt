@@ -1,43 +1,32 @@
 -- What comes of one step of a call that lists keys.
 use Rattle.std.proofs.Common.{◌≡◌, ℕ, suc, ◌≤◌, Bool, true, false, nat_eq, nat_lt, List, [], ◌++◌, length, Option, Some, None, IsSome, if◌then◌else◌, inl, inr, refl, sym, ap, subst, ◌∙◌, arith}
-use Rattle.std.proofs.lemmas.Bool.{false≢true}
 use Rattle.std.proofs.lemmas.List.Sorted.{length_permutation}
 use Rattle.std.specs.Cmp.{IsEquivalence}
-use Rattle.std.specs.List.{find, slice_get}
-use Rattle.std.specs.Option.{option_eq, option_map, option_map_or, option_to_list}
-use Rattle.moka_buckets.specs.KeyOps.{key_of}
-use Rattle.moka_buckets.specs.declared.key_op.KeyOp.{KeyOp}
+use Rattle.std.specs.Option.{option_eq, option_map_or, option_to_list}
 use Rattle.moka_words.specs.Words.{is_sealed, stored_in}
 use Rattle.moka_words.specs.declared.accesses.Seen.{Seen}
 use Rattle.moka_words.specs.declared.accesses.Seen.TheVariants as seen
-use Rattle.moka_words.specs.Effect.{Memory, Effect, LaterMemory}
-use Rattle.moka_words.proofs.Effects.{unchanged_later}
+use Rattle.moka_words.specs.Effect.{Memory, Effect}
 use Rattle.moka_growth.specs.declared.kinds.CallKind.TheVariants as kind
-use Rattle.moka_growth.specs.Sound.{IsSound}
-use Rattle.moka_growth.specs.Calls.{Point, Call, Ending, Step, Going, Decided, Nodes, access_of, next_at, next_of, goes, is_due, start_of, without_root}
+use Rattle.moka_growth.specs.Calls.{Point, Call, Step, Going, Decided, Nodes, access_of, next_at, next_of, goes, is_due, start_of, without_root}
 use Rattle.moka_growth.specs.Calls as call
-use Rattle.moka_growth.specs.Fits.{IsKey, Rests}
-use Rattle.moka_growth.specs.Maps.{present_nodes, KeepsMap, Finds}
+use Rattle.moka_growth.specs.Fits.{Rests}
+use Rattle.moka_growth.specs.Maps.{present_nodes, KeepsMap}
 use Rattle.moka_growth.specs.Counts.{Recounts, IsCounted}
 use Rattle.moka_growth.specs.Listing.{listed, HasKey, ArePresent}
-use Rattle.moka_growth.specs.Laws.{Makes}
-use Rattle.moka_growth.proofs.Accessing.{access_keeps_sound, access_is_later}
-use Rattle.moka_growth.proofs.Stepping.{fits_goes_on, going_keeps_map, ending_is_maps}
-use Rattle.moka_growth.proofs.Shortness.{short_stays}
-use Rattle.moka_growth.proofs.Counting.{count_stays}
-use Rattle.moka_growth.proofs.Lowered.{left_falls}
-use Rattle.moka_growth.proofs.Elsewhere.{present_is_mine}
 use Rattle.moka_growth.proofs.Listed.{listing_goes_on, listing_ends, listing_lasts, listed_key_goes_on, listed_key_ends, listed_key_lasts}
-use Rattle.moka_growth.proofs.Lasts.{fits_lasts}
 use Rattle.moka_buckets.specs.declared.node.Node.{Node}
-use Rattle.moka_buckets.specs.Nodes.{hash_by, same_by, own_by, mine_by, key_in, pair_at, Agrees}
-use Rattle.moka_buckets.specs.Tables.{map_of, IsWell, RunsOn}
+use Rattle.moka_pairs.specs.Keys.{hash_by, same_by, own_by, mine_by}
+use Rattle.moka_buckets.specs.Nodes.{key_in, pair_in, Agrees}
+use Rattle.moka_buckets.specs.Tables.{IsWell}
 use Rattle.moka_buckets.specs.Walks.{IsNoSeek, owns_none, AreNodes, AreOfMap, Covers, Walks, WalksOn, Lead, carried, listed_by, listed_in, node_next, word_next}
 use Rattle.moka_buckets.proofs.Carrying.{carries, rest_of}
 use Rattle.moka_buckets.proofs.Few.{FewAfter, few_course, few_ended, few_last}
-use Rattle.moka_buckets.proofs.Naming.{names_keys, is_own, is_key}
-use Rattle.moka_buckets.proofs.Found.{found_finds}
-use Rattle.moka_buckets.proofs.Turning.{Sound, agrees_now, found_is, map_kept, present_pair}
+use Rattle.moka_pairs.specs.Segments.{LaterAll, Sees, SoundAll}
+use Rattle.moka_pairs.proofs.Names.{agrees_now, is_own, names_keys}
+use Rattle.moka_pairs.proofs.Steps.{counted_after, ends_after, falls_after, fits_after, fits_last, keeps_after, later_after, makes, short_after, sound_after}
+use Rattle.moka_pairs.proofs.Mapped.{has_key, map_found, map_kept, present_known, present_pair}
+use Rattle.moka_buckets.proofs.Known.{are_keys}
 use Rattle.moka_buckets.proofs.Turns.{no_choice}
 
 pub seeks_rests : (p : Point) → IsNoSeek p → Rests p
@@ -53,13 +42,8 @@ seeks_rests (call.Link o l kept) nay = tt
 seeks_rests (call.Copy from a i laid) nay = tt
 seeks_rests (call.Swing from a) nay = tt
 
--- no node is one of a call without a key
-no_key : (hash : ℕ → ℕ) (same : ℕ → ℕ → Bool) (mine : ℕ → Bool) (h : ℕ) → IsKey hash same mine owns_none h
-no_key hash same mine h = record {
-  one = record { alike = λ n m e. refl; one = λ n m e f. absurd (false≢true e) };
-  hashed = λ n e. absurd (false≢true e);
-  of_segment = λ n e. absurd (false≢true e);
-}
+no_item : {A : Type 0} {x : A} → None ≡ Some x → ⊥
+no_item e = cc
 
 -- it goes on without a key, or ends with its list
 abbrev Course : Step → Type 0
@@ -96,103 +80,83 @@ course c k rest p nay s = (k, rest)
 
 module _ {K V : Type 0} (eq : K → K → Bool) (laws : IsEquivalence eq) (hash : K → ℕ) (respects : (x y : K) → eq x y ≡ true → hash x ≡ hash y)
     (nodes : List (Node K V)) where
-  -- a key that the map has is that of a node that is present
-  pub has_key : (m : Memory) (key : K) → IsSome (map_of eq m nodes key) → (keys : ℕ → Option K) → Agrees keys nodes → HasKey (own_by eq keys key) m
-  has_key m key has keys agrees = by (find (own_by eq (key_in nodes) key) (present_nodes m)) has (found_finds (own_by eq (key_in nodes) key) m)
-    where
-      same : (n : ℕ) (o : Option (Node K V)) → slice_get nodes n ≡ o → option_map_or (eq key) (option_map (λ node. node.key) o) false ≡ true →
-          own_by eq keys key n ≡ true
-      same n None there e = absurd (false≢true e)
-      same n (Some node) there e = ap (λ k. option_map_or (eq key) k false) (agrees n node there) ∙ e
-
-      by : (o : Option ℕ) → IsSome (pair_at nodes o) → Finds (own_by eq (key_in nodes) key) m o → HasKey (own_by eq keys key) m
-      by None e finds = absurd (false≢true e)
-      by (Some n) e finds = (n, finds.0, same n (slice_get nodes n) refl finds.1)
-
   module _ (first peak : ℕ) (c : Call) (saw : Seen) (old new : Memory) (well : IsWell eq hash old nodes first peak) (walks : Walks eq hash old nodes c)
       (effect : (keys : ℕ → Option K) → Agrees keys nodes → Effect (hash_by hash keys) owns_none (access_of c) saw old new)
       (counts : Recounts (access_of c) saw old new) where
-    makes : (keys : ℕ → Option K) → Agrees keys nodes → Makes (hash_by hash keys) (same_by eq keys) (mine_by keys) owns_none c saw old new
-    makes keys agrees = record {
-      names = names_keys eq laws hash respects keys;
-      key = no_key (hash_by hash keys) (same_by eq keys) (mine_by keys) c.hash;
-      sound = well.sound keys agrees;
-      fits = walks.fits keys agrees;
-      effect = effect keys agrees;
-      choice = no_choice (hash_by hash keys) owns_none c.hash old new c.point saw (seeks_rests c.point walks.seeks) (effect keys agrees);
+    sees : Sees eq hash (key_in nodes) None c saw old new
+    sees = record {
+      hashed = λ k e. absurd (no_item e);
+      fits = walks.fits;
+      effect = effect;
+      choice = λ keys agrees. no_choice (hash_by hash keys) owns_none c.hash old new c.point saw (seeks_rests c.point walks.seeks) (effect keys agrees);
     }
 
-    makes_now : Makes (hash_by hash (key_in nodes)) (same_by eq (key_in nodes)) (mine_by (key_in nodes)) owns_none c saw old new
-    makes_now = makes (key_in nodes) (agrees_now nodes)
-
-    pub sound_led : (keys : ℕ → Option K) → Agrees keys nodes → IsSound (hash_by hash keys) (same_by eq keys) (mine_by keys) new
-    sound_led keys agrees = access_keeps_sound (hash_by hash keys) (same_by eq keys) (mine_by keys) owns_none c saw old new (makes keys agrees)
+    pub sound_led : SoundAll eq hash (key_in nodes) new
+    sound_led = sound_after eq laws hash respects (key_in nodes) None c saw old new well.sound sees
 
     counted : IsCounted new
-    counted = let keys = key_in nodes in
-        count_stays (hash_by hash keys) (same_by eq keys) (mine_by keys) owns_none c saw old new makes_now counts well.counted
+    counted = counted_after eq laws hash respects (key_in nodes) None c saw old new well.sound sees counts well.counted
 
     same_count : KeepsMap old new → new.len ≡ old.len
     same_count keeps = counted ∙ (length_permutation (present_nodes old) (present_nodes new) keeps ∙ sym well.counted)
 
     well_led : KeepsMap old new → IsWell eq hash new nodes first peak
-    well_led keeps = let keys = key_in nodes in
+    well_led keeps =
         let few : length (present_nodes new) ≤ peak = let same = length_permutation (present_nodes old) (present_nodes new) keeps in let keys_few = well.short.keys in omega arith in
         record {
           sound = sound_led;
           hashed = well.hashed;
           counted = counted;
-          short = short_stays (hash_by hash keys) (same_by eq keys) (mine_by keys) owns_none c saw old new first peak makes_now well.short few;
+          short = short_after eq laws hash respects (key_in nodes) None c saw old new well.sound sees first peak peak well.short (omega arith) few;
         }
 
     present_named : (before after : List ℕ) → AreNodes nodes before → ArePresent before after old → AreNodes nodes after
     present_named before after named present x n e = elim (present x n e) [
       | inl was ↦ named was.0 n was.1
-      | inr here ↦ present_is_mine (hash_by hash (key_in nodes)) (same_by eq (key_in nodes)) (mine_by (key_in nodes)) old n
-          (well.sound (key_in nodes) (agrees_now nodes)) here
+      | inr here ↦ present_known eq laws hash respects (key_in nodes) old well.sound n here
     ]
 
     of_map : (before after : List ℕ) → ArePresent before after old → AreOfMap eq old nodes before after
     of_map before after present x n e = elim (present x n e) [
       | inl was ↦ inl was
-      | inr here ↦ inr (λ key is. subst (λ o. IsSome (pair_at nodes o))
-          (sym (found_is eq laws hash respects nodes old well.sound key (Some n)
+      | inr here ↦ inr (λ key is. subst IsSome
+          (sym (map_found eq laws hash respects (key_in nodes) (pair_in nodes) old well.sound key (Some n)
           (here, ap (λ k. option_map_or (eq key) k false) is ∙ laws.refl key)))
-          (present_pair eq laws hash respects nodes old well.sound n here))
+          (present_pair eq laws hash respects (key_in nodes) (pair_in nodes) (are_keys nodes) old well.sound n here))
     ]
 
     -- what it has listed then
     adds_by : (mid : Step) → next_of c saw ≡ mid →
         listed_by mid ≡ carried (listed c.point) (word_next old (Going c)) (node_next (word_next old (Going c)))
     adds_by mid is = sym (ap listed_by is)
-        ∙ carries old new (hash_by hash (key_in nodes)) owns_none c walks.kind c.point (rest_of c.point) walks.seeks saw (effect (key_in nodes) (agrees_now nodes))
+        ∙ carries old new (hash_by hash (key_in nodes)) owns_none c walks.kind c.point (rest_of c.point) walks.seeks saw (effect (key_in nodes) (agrees_now (key_in nodes)))
 
     -- it goes on
     on : (d : Call) → next_of c saw ≡ Going d → Course (Going d) → Lead eq hash nodes first peak old (Going c) new (Going d)
     on d is at =
         let now = key_in nodes in
-        let keeps = going_keeps_map (hash_by hash now) (same_by eq now) (mine_by now) owns_none c d saw old new makes_now is in
-        let present = (listing_goes_on (hash_by hash now) (same_by eq now) (mine_by now) owns_none c d saw old new makes_now (walks.lists now (agrees_now nodes)) is).1 in
+        let keeps = keeps_after eq laws hash respects (key_in nodes) None c saw old new well.sound sees d is in
+        let present = (listing_goes_on (hash_by hash now) (same_by eq now) (mine_by now) owns_none c d saw old new (makes eq laws hash respects (key_in nodes) None c saw old new well.sound sees now (agrees_now now)) (walks.lists now (agrees_now (key_in nodes))) is).1 in
         record {
           well = well_led keeps;
-          map = map_kept eq laws hash respects nodes old new sound_led keeps;
+          map = map_kept eq laws hash respects (key_in nodes) (pair_in nodes) old new sound_led keeps;
           count = same_count keeps;
           walks = record {
             kind = at.0;
             seeks = at.1;
-            fits = λ keys agrees. fits_goes_on (hash_by hash keys) (same_by eq keys) (mine_by keys) owns_none c d saw old new (makes keys agrees) is;
-            lists = λ keys agrees. (listing_goes_on (hash_by hash keys) (same_by eq keys) (mine_by keys) owns_none c d saw old new (makes keys agrees)
+            fits = fits_after eq laws hash respects (key_in nodes) None c saw old new well.sound sees d is;
+            lists = λ keys agrees. (listing_goes_on (hash_by hash keys) (same_by eq keys) (mine_by keys) owns_none c d saw old new (makes eq laws hash respects (key_in nodes) None c saw old new well.sound sees keys agrees)
                 (walks.lists keys agrees) is).0;
             named = present_named (listed c.point) (listed d.point) walks.named present;
             few = subst (λ s. FewAfter c.point s) is (few_course c walks.kind walks.few c.point walks.seeks walks.few saw);
           };
-          falls = (left_falls (hash_by hash now) (same_by eq now) (mine_by now) owns_none c d saw old new first peak makes_now well.short is).0
+          falls = (falls_after eq laws hash respects (key_in nodes) None c saw old new well.sound sees first peak d well.short is).0
               (seeks_rests c.point walks.seeks);
           lists = of_map (listed c.point) (listed d.point) present;
           covers = λ key has covers keys agrees.
-              listed_key_goes_on (hash_by hash keys) (same_by eq keys) (mine_by keys) owns_none (own_by eq keys key) c d saw old new (makes keys agrees)
-              (is_own eq laws hash respects key keys) (has_key old key has keys agrees) (covers keys agrees) is;
-          later = λ keys agrees. access_is_later (hash_by hash keys) (same_by eq keys) (mine_by keys) owns_none c saw old new (makes keys agrees);
+              listed_key_goes_on (hash_by hash keys) (same_by eq keys) (mine_by keys) owns_none (own_by eq keys key) c d saw old new (makes eq laws hash respects (key_in nodes) None c saw old new well.sound sees keys agrees)
+              (is_own eq laws hash respects key keys) (has_key eq laws hash respects (key_in nodes) (pair_in nodes) old key has keys agrees) (covers keys agrees) is;
+          later = later_after eq laws hash respects (key_in nodes) None c saw old new well.sound sees;
           adds = adds_by (Going d) is;
         }
 
@@ -200,26 +164,26 @@ module _ {K V : Type 0} (eq : K → K → Bool) (laws : IsEquivalence eq) (hash 
     off : (ns : List ℕ) → next_of c saw ≡ Decided (Nodes ns) → Lead eq hash nodes first peak old (Going c) new (Decided (Nodes ns))
     off ns is =
         let now = key_in nodes in
-        let keeps : KeepsMap old new = ending_is_maps (hash_by hash now) (same_by eq now) (mine_by now) owns_none c (Nodes ns) saw old new makes_now is in
-        let ends = listing_ends (hash_by hash now) (same_by eq now) (mine_by now) owns_none c ns saw old new makes_now (walks.lists now (agrees_now nodes)) is in
+        let keeps : KeepsMap old new = ends_after eq laws hash respects (key_in nodes) None c saw old new well.sound sees (Nodes ns) is in
+        let ends = listing_ends (hash_by hash now) (same_by eq now) (mine_by now) owns_none c ns saw old new (makes eq laws hash respects (key_in nodes) None c saw old new well.sound sees now (agrees_now now)) (walks.lists now (agrees_now (key_in nodes))) is in
         record {
           well = well_led keeps;
-          map = map_kept eq laws hash respects nodes old new sound_led keeps;
+          map = map_kept eq laws hash respects (key_in nodes) (pair_in nodes) old new sound_led keeps;
           count = same_count keeps;
           walks = record {
             differ = ends.0;
             named = present_named (listed c.point) ns walks.named ends.1;
-            few = few_last old new ns (well.sound now (agrees_now nodes))
-                (access_is_later (hash_by hash now) (same_by eq now) (mine_by now) owns_none c saw old new makes_now)
-                (few_ended (hash_by hash now) owns_none c.hash old c.point ns (walks.fits now (agrees_now nodes))
+            few = few_last old new ns (well.sound now (agrees_now (key_in nodes)))
+                (later_after eq laws hash respects (key_in nodes) None c saw old new well.sound sees now (agrees_now now))
+                (few_ended (hash_by hash now) owns_none c.hash old c.point ns (walks.fits now (agrees_now (key_in nodes)))
                 (subst (λ s. FewAfter c.point s) is (few_course c walks.kind walks.few c.point walks.seeks walks.few saw)));
           };
           falls = tt;
           lists = of_map (listed c.point) ns ends.1;
           covers = λ key has covers.
-              listed_key_ends (hash_by hash now) (same_by eq now) (mine_by now) owns_none (own_by eq now key) c ns saw old new makes_now
-              (is_own eq laws hash respects key now) (has_key old key has now (agrees_now nodes)) (covers now (agrees_now nodes)) is;
-          later = λ keys agrees. access_is_later (hash_by hash keys) (same_by eq keys) (mine_by keys) owns_none c saw old new (makes keys agrees);
+              listed_key_ends (hash_by hash now) (same_by eq now) (mine_by now) owns_none (own_by eq now key) c ns saw old new (makes eq laws hash respects (key_in nodes) None c saw old new well.sound sees now (agrees_now now))
+              (is_own eq laws hash respects key now) (has_key eq laws hash respects (key_in nodes) (pair_in nodes) old key has now (agrees_now (key_in nodes))) (covers now (agrees_now (key_in nodes))) is;
+          later = later_after eq laws hash respects (key_in nodes) None c saw old new well.sound sees;
           adds = adds_by (Decided (Nodes ns)) is;
         }
 
@@ -232,40 +196,18 @@ module _ {K V : Type 0} (eq : K → K → Bool) (laws : IsEquivalence eq) (hash 
     pub led : Lead eq hash nodes first peak old (Going c) new (next_of c saw)
     led = led_by (next_of c saw) refl (course c walks.kind walks.seeks c.point walks.seeks saw)
 
-  -- a memory that stays
-  pub later_same : (m : Memory) (keys : ℕ → Option K) → LaterMemory (same_by eq keys) m m
-  later_same m keys = unchanged_later (same_by eq keys) (names_keys eq laws hash respects keys) m m
-      (λ a. refl, record { arrays = refl; rooted = refl; fresh = refl })
-
   -- what stays of the calls while others make their steps
-  module _ (old new : Memory) (sound : Sound eq laws hash respects nodes old) (later : (keys : ℕ → Option K) → Agrees keys nodes → LaterMemory (same_by eq keys) old new) where
-    pub runs_last : (o : KeyOp K V) (stored : Option ℕ) (step : Step) → RunsOn eq hash old nodes o stored step → RunsOn eq hash new nodes o stored step
-    runs_last o stored (Decided e) r = r
-    runs_last o stored (Going d) r = record {
-      kind = r.kind;
-      hashed = r.hashed;
-      fits = λ keys agrees.
-          fits_lasts (hash_by hash keys) (same_by eq keys) (mine_by keys) (own_by eq keys (key_of o)) d old new (names_keys eq laws hash respects keys)
-          (subst (λ h. IsKey (hash_by hash keys) (same_by eq keys) (mine_by keys) (own_by eq keys (key_of o)) h)
-          (sym r.hashed) (is_key eq laws hash respects (key_of o) keys)) (sound keys agrees) (later keys agrees) r.rests (r.fits keys agrees);
-      rests = r.rests;
-      walks = r.walks;
-      puts = r.puts;
-      filled = r.filled;
-    }
-
+  module _ (old new : Memory) (sound : SoundAll eq hash (key_in nodes) old) (later : LaterAll eq (key_in nodes) old new) where
     pub walks_last : (step : Step) → WalksOn eq hash old nodes step → WalksOn eq hash new nodes step
     walks_last (Decided e) w = record {
       differ = w.differ;
       named = w.named;
-      few = few_last old new (listed_in e) (sound (key_in nodes) (agrees_now nodes)) (later (key_in nodes) (agrees_now nodes)) w.few;
+      few = few_last old new (listed_in e) (sound (key_in nodes) (agrees_now (key_in nodes))) (later (key_in nodes) (agrees_now (key_in nodes))) w.few;
     }
     walks_last (Going c) w = record {
       kind = w.kind;
       seeks = w.seeks;
-      fits = λ keys agrees.
-          fits_lasts (hash_by hash keys) (same_by eq keys) (mine_by keys) owns_none c old new (names_keys eq laws hash respects keys)
-          (no_key (hash_by hash keys) (same_by eq keys) (mine_by keys) c.hash) (sound keys agrees) (later keys agrees) (seeks_rests c.point w.seeks) (w.fits keys agrees);
+      fits = fits_last eq laws hash respects (key_in nodes) None c old new sound later (λ k e. absurd (no_item e)) (seeks_rests c.point w.seeks) w.fits;
       lists = λ keys agrees.
           listing_lasts (hash_by hash keys) (same_by eq keys) (mine_by keys) owns_none c old new (names_keys eq laws hash respects keys) (sound keys agrees)
           (later keys agrees) (w.fits keys agrees) (w.lists keys agrees);
@@ -273,7 +215,7 @@ module _ {K V : Type 0} (eq : K → K → Bool) (laws : IsEquivalence eq) (hash 
       few = w.few;
     }
 
-    pub covers_last : Sound eq laws hash respects nodes new → (key : K) → ((keys : ℕ → Option K) → Agrees keys nodes → HasKey (own_by eq keys key) old) →
+    pub covers_last : SoundAll eq hash (key_in nodes) new → (key : K) → ((keys : ℕ → Option K) → Agrees keys nodes → HasKey (own_by eq keys key) old) →
         (step : Step) → WalksOn eq hash old nodes step →
         Covers eq old nodes key step → Covers eq new nodes key step
     covers_last sound_new key has (Decided e) w covers = covers

@@ -1,10 +1,8 @@
 pub mod Placed
 pub mod Seeing
-pub mod Naming
 pub mod Courses
 pub mod Chosen
-pub mod Found
-pub mod Turning
+pub mod Known
 pub mod Growing
 pub mod Turns
 pub mod Possible

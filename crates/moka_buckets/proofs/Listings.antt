@@ -11,10 +11,11 @@ use Rattle.moka_words.specs.Effect.{Memory, root, words_of}
 use Rattle.moka_words.proofs.Laying.{stored_is_key}
 use Rattle.moka_growth.proofs.Copying.{root_is_array}
 use Rattle.moka_buckets.specs.declared.node.Node.{Node}
-use Rattle.moka_buckets.specs.Nodes.{is_one_key, own_by, same_by, key_in, pair_at}
+use Rattle.moka_pairs.specs.Keys.{is_one_key, own_by, same_by}
+use Rattle.moka_buckets.specs.Nodes.{key_in, pair_at}
 use Rattle.moka_buckets.specs.Tables.{IsWell}
 use Rattle.moka_buckets.specs.Listed.{listed_in}
-use Rattle.moka_buckets.proofs.Turning.{agrees_now}
+use Rattle.moka_pairs.proofs.Names.{agrees_now}
 
 module _ {K V : Type 0} where
   abbrev pub entries : List (K × Stored V) → List (K × (K × Stored V))
@@ -103,5 +104,5 @@ module _ {K V : Type 0} (eq : K → K → Bool) (nodes : List (Node K V)) where
 pub listed_distinct : {K V : Type 0} (eq : K → K → Bool) (hash : K → ℕ) (m : Memory) (nodes : List (Node K V)) (first peak : ℕ) → IsWell eq hash m nodes first peak →
     IsDistinct eq (keys_of (entries (listed_in nodes (words_of m (root m)))))
 listed_distinct eq hash m nodes first peak well = distinct_listed eq nodes (words_of m (root m)) (λ i j n k d e alike.
-    (root_is_array m (well.sound (key_in nodes) (agrees_now nodes))).0.one i j n k
+    (root_is_array m (well.sound (key_in nodes) (agrees_now (key_in nodes)))).0.one i j n k
     (stored_is_key (word_at (words_of m (root m)) i) n d) (stored_is_key (word_at (words_of m (root m)) j) k e) alike)

@@ -29,7 +29,8 @@ use Rattle.moka_calls.specs.Laws.{AreShort}
 use Rattle.moka_buckets.specs.declared.array.Array.{Array}
 use Rattle.moka_buckets.specs.declared.array.Arrays.{Arrays}
 use Rattle.moka_buckets.specs.declared.node.Node.{Node}
-use Rattle.moka_buckets.specs.Nodes.{hash_by, same_by, mine_by, key_in, IsNamed}
+use Rattle.moka_pairs.specs.Keys.{hash_by, same_by, mine_by}
+use Rattle.moka_buckets.specs.Nodes.{key_in, IsNamed}
 use Rattle.moka_buckets.specs.Arrays.{words_in, memory_of}
 use Rattle.moka_buckets.specs.Making.{CanMake, is_tomb}
 use Rattle.moka_buckets.specs.Tables.{Puts, choose, put_by}

@@ -30,13 +30,15 @@ use Rattle.moka_buckets.specs.Tables.{map_of, IsWell}
 use Rattle.moka_buckets.specs.Building.{HasNone, HasRoot}
 use Rattle.moka_buckets.specs.Parts.{memory_at, keys_at, peak_at, map_at, segment_of, IsPart}
 use Rattle.moka_buckets.specs.declared.node.Node.{Node}
-use Rattle.moka_buckets.specs.Nodes.{is_one_key, hash_by, same_by, own_by, mine_by, key_in, pair_at, Agrees, AreHashed}
+use Rattle.moka_pairs.specs.Keys.{is_one_key, hash_by, same_by, own_by, mine_by}
+use Rattle.moka_buckets.specs.Nodes.{key_in, pair_at, pair_in, Agrees, AreHashed}
 use Rattle.moka_buckets.specs.Listed.{listed_in}
 use Rattle.moka_buckets.specs.Compacting.{IsCompact, node_in, nodes_stored, numbered, live_nodes, AreLaid, Compacts}
-use Rattle.moka_buckets.proofs.Naming.{names_keys}
+use Rattle.moka_pairs.proofs.Names.{agrees_now, names_keys}
+use Rattle.moka_pairs.proofs.Mapped.{map_kept, present_known}
 use Rattle.moka_buckets.proofs.Ranged.{range_array}
 use Rattle.moka_buckets.proofs.Listings.{entries, lookup_listed, listed_distinct}
-use Rattle.moka_buckets.proofs.Turning.{agrees_now, map_kept, present_pair}
+use Rattle.moka_buckets.proofs.Known.{key_there}
 use Rattle.moka_buckets.proofs.Beginning.{some_at}
 use Rattle.moka_buckets.proofs.Fresh.{first_at, none_placed, root_placed, none_present, root_present}
 
@@ -138,7 +140,7 @@ module _ {K V : Type 0} (eq : K → K → Bool) (laws : IsEquivalence eq) (hash 
       ∙ ap (λ k. all_placed H (option_map_or (λ i. set ws i (Live n)) (first_free ws k) ws) (range_with_len (n + 1) (length ys))) (sym is)
 
   pub laid_is : laid_out (numbered 0 xs) size ≡ Laid
-  laid_is = placed_from 0 xs (λ i x e. ap (λ o. option_map_or hash o 0) (subst (λ m. keys m ≡ Some x.key) (omega arith) (agrees i x e)) ∙ sym (hashed i x e)) (replicate size Empty)
+  laid_is = placed_from 0 xs (λ i x e. ap (λ o. option_map_or hash o 0) (subst (λ m. keys m ≡ Some x.key) (omega arith) (agrees i x.key (key_there xs i x e))) ∙ sym (hashed i x e)) (replicate size Empty)
 
   all_at : (P : K → Type 0) (ys : List (Node K V)) (i : ℕ) (y : Node K V) → slice_get ys i ≡ Some y → AllByRecursion P (keys_of (entries (pairs_of ys))) → P y.key
   all_at P [] i y e a = absurd (cc e)
@@ -159,7 +161,8 @@ module _ {K V : Type 0} (eq : K → K → Bool) (laws : IsEquivalence eq) (hash 
   differ i j h within =
       let x = some_at xs i (omega (arith, h, within)) in
       let y = some_at xs j within in
-      let d : S j i ≡ eq (y.0).key (x.0).key = ap (λ o. is_one_key eq o (keys i)) (agrees j y.0 y.1) ∙ ap (is_one_key eq (Some (y.0).key)) (agrees i x.0 x.1) in
+      let d : S j i ≡ eq (y.0).key (x.0).key = ap (λ o. is_one_key eq o (keys i)) (agrees j (y.0).key (key_there xs j y.0 y.1))
+      ∙ ap (is_one_key eq (Some (y.0).key)) (agrees i (x.0).key (key_there xs i x.0 x.1)) in
       d ∙ (laws.symm (y.0).key (x.0).key ∙ differ_at xs i j x.0 y.0 h x.1 y.1 distinct)
 
   -- each node gets a place
@@ -183,7 +186,7 @@ module _ {K V : Type 0} (eq : K → K → Bool) (laws : IsEquivalence eq) (hash 
       omega (arith, low, same, is)
 
   has_key : (n : ℕ) → n < length xs → is_some (keys n) ≡ true
-  has_key n within = let x = some_at xs n within in ap is_some (agrees n x.0 x.1)
+  has_key n within = let x = some_at xs n within in ap is_some (agrees n (x.0).key (key_there xs n x.0 x.1))
 
   filled : (i : ℕ) → i < length Laid → IsEmptyOrLive (word_at Laid i)
   filled i h = (all_filled H (replicate size Empty) Numbers (empty_filled size)).each i h
@@ -246,7 +249,7 @@ module _ {K V : Type 0} (eq : K → K → Bool) (laws : IsEquivalence eq) (hash 
     words_are keys agrees = has.words_are ∙ laid_is eq laws hash respects xs hashed distinct laid.size room keys agrees
 
     long : length (words_in s.all.items 0) ≡ laid.size
-    long = ap (λ ws. length ws) (words_are (key_in xs) (agrees_now xs)) ∙ laid_length eq laws hash respects xs hashed distinct laid.size room (key_in xs) (agrees_now xs)
+    long = ap (λ ws. length ws) (words_are (key_in xs) (agrees_now (key_in xs))) ∙ laid_length eq laws hash respects xs hashed distinct laid.size room (key_in xs) (agrees_now (key_in xs))
 
     one_sound : (keys : ℕ → Option K) → Agrees keys xs → IsSound (hash_by hash keys) (same_by eq keys) (mine_by keys) (memory_of s)
     one_sound keys agrees = one_is_sound (hash_by hash keys) (same_by eq keys) (mine_by keys) (memory_of s) 0 has.arrays has.rooted
@@ -257,11 +260,11 @@ module _ {K V : Type 0} (eq : K → K → Bool) (laws : IsEquivalence eq) (hash 
 
     present_are : present_nodes (memory_of s) ≡ stored_nodes (LaidBy (key_in xs))
     present_are = root_present (laid_out (numbered 0 xs) laid.size) s has
-        ∙ ap stored_nodes (laid_is eq laws hash respects xs hashed distinct laid.size room (key_in xs) (agrees_now xs))
+        ∙ ap stored_nodes (laid_is eq laws hash respects xs hashed distinct laid.size room (key_in xs) (agrees_now (key_in xs)))
 
     all_present : IsPermutation (range_with_len 0 (length xs)) (present_nodes (memory_of s))
     all_present = subst (λ ns. IsPermutation (range_with_len 0 (length xs)) ns) (sym present_are)
-        (all_laid eq laws hash respects xs hashed distinct laid.size room (key_in xs) (agrees_now xs))
+        (all_laid eq laws hash respects xs hashed distinct laid.size room (key_in xs) (agrees_now (key_in xs)))
 
     count_present : length (present_nodes (memory_of s)) ≡ length xs
     count_present = length_permutation (range_with_len 0 (length xs)) (present_nodes (memory_of s)) all_present ∙ length-range_with_len 0 (length xs)
@@ -289,7 +292,7 @@ module _ {K V : Type 0} (eq : K → K → Bool) (laws : IsEquivalence eq) (hash 
 
     one_map : (q : K) → map_of eq (memory_of s) xs q ≡ lookup (eq q) (entries (pairs_of xs))
     one_map q = let ws = live_words (range_with_len 0 (length xs)) in
-        map_kept eq laws hash respects xs (alone ws) (memory_of s) one_sound
+        map_kept eq laws hash respects (key_in xs) (pair_in xs) (alone ws) (memory_of s) one_sound
         (subst (λ ns. IsPermutation ns (present_nodes (memory_of s))) (sym (stored_live (range_with_len 0 (length xs)))) all_present) q
         ∙ (sym (lookup_listed eq xs q ws) ∙ ap (λ ps. lookup (eq q) (entries ps)) (listed_range xs 0 xs (λ i x e. let same : i ≡ 0 + i = omega arith in subst (λ m. slice_get xs m ≡ Some x) same e)))
 
@@ -324,9 +327,9 @@ module _ {K V : Type 0} (eq : K → K → Bool) (laws : IsEquivalence eq) (hash 
       (listed_distinct eq hash (memory_at old) old.nodes.items first (peak_at old) is.well)
 
   named : (j n : ℕ) → stored_in (word_at Words j) ≡ Some n → is_some (slice_get old.nodes.items n) ≡ true
-  named j n e = by (slice_get old.nodes.items n) (present_pair eq laws hash respects old.nodes.items (memory_at old) is.well.sound n (j, e))
+  named j n e = by (slice_get old.nodes.items n) (present_known eq laws hash respects (key_in old.nodes.items) (memory_at old) is.well.sound n (j, e))
     where
-      by : (o : Option (Node K V)) → is_some (option_map {U = K × Stored V} (λ node. (node.key, node.stored)) o) ≡ true → is_some o ≡ true
+      by : (o : Option (Node K V)) → is_some (option_map (λ node. node.key) o) ≡ true → is_some o ≡ true
       by None d = d
       by (Some x) d = refl
 

@@ -18,11 +18,12 @@ use Rattle.moka_growth.specs.Maps.{Finds}
 use Rattle.moka_growth.proofs.Copying.{root_is_array}
 use Rattle.moka_growth.proofs.Finding.{FindsIn, absent_in}
 use Rattle.moka_buckets.specs.declared.node.Node.{Node}
-use Rattle.moka_buckets.specs.Nodes.{hash_by, same_by, own_by, key_in, pair_at}
+use Rattle.moka_pairs.specs.Keys.{hash_by, same_by, own_by}
+use Rattle.moka_buckets.specs.Nodes.{key_in, pair_at, pair_in}
 use Rattle.moka_buckets.specs.Tables.{map_of, IsWell}
 use Rattle.moka_buckets.specs.Looking.{is_end, Seeks}
-use Rattle.moka_buckets.proofs.Naming.{is_key}
-use Rattle.moka_buckets.proofs.Turning.{agrees_now, found_is}
+use Rattle.moka_pairs.proofs.Names.{agrees_now, is_key}
+use Rattle.moka_pairs.proofs.Mapped.{map_found}
 
 one_node : {n k : ℕ} → Some n ≡ Some k → n ≡ k
 one_node e = cc
@@ -108,5 +109,5 @@ seek_is_map eq laws hash respects nodes m first peak well h key hashed o seeks =
     let own = own_by eq keys key in
     let is = is_key eq laws hash respects key keys in
     let found = finds_in_root own m o (seek_finds {hash = hash_by hash keys} {same = same_by eq keys} is.one (words_of m (root m))
-    (root_is_array m (well.sound keys (agrees_now nodes))).0 h (λ n e. is.hashed n e ∙ sym hashed) o seeks) in
-    ap (pair_at nodes) (sym (found_is eq laws hash respects nodes m well.sound key o found))
+    (root_is_array m (well.sound keys (agrees_now keys))).0 h (λ n e. is.hashed n e ∙ sym hashed) o seeks) in
+    sym (map_found eq laws hash respects keys (pair_in nodes) m well.sound key o found)

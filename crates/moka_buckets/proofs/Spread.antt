@@ -23,12 +23,13 @@ use Rattle.moka_table.specs.Map.{Pairs, SameMap, most_steps}
 use Rattle.moka_buckets.specs.declared.node.Node.{Node}
 use Rattle.moka_buckets.specs.declared.part.Part.{Part}
 use Rattle.moka_buckets.specs.declared.bucket_call.BucketCall.{BucketCall}
-use Rattle.moka_buckets.specs.Nodes.{hash_by, own_by, key_in, pair_at}
+use Rattle.moka_pairs.specs.Keys.{hash_by, own_by}
+use Rattle.moka_buckets.specs.Nodes.{key_in, pair_at}
 use Rattle.moka_buckets.specs.Tables.{left_in, RunsOn}
 use Rattle.moka_buckets.specs.Steps.{FitsCall}
 use Rattle.moka_buckets.specs.Parts.{memory_at, keys_at, peak_at, map_at, map_over, keys_of, left_over, segment_of, IsPart, AreParts, FitsParts, Goes}
 use Rattle.moka_buckets.proofs.Placed.{get-set-same, get-set-other}
-use Rattle.moka_buckets.proofs.Turning.{agrees_now}
+use Rattle.moka_pairs.proofs.Names.{agrees_now}
 
 one_item : {A : Type 0} {x y : A} → Some x ≡ Some y → x ≡ y
 one_item d = cc
@@ -129,7 +130,7 @@ few_left : {K V : Type 0} (eq : K → K → Bool) (hash : K → ℕ) (m : Memory
     IsShort first peak m → RunsOn eq hash m nodes o n step → left_in first peak m step ≤ most_steps first peak
 few_left eq hash m nodes first peak o n (Decided e) short runs = absurd runs
 few_left eq hash m nodes first peak o n (Going c) short runs =
-    left_is_bounded (hash_by hash (key_in nodes)) (own_by eq (key_in nodes) (key_of o)) c m first peak (runs.fits (key_in nodes) (agrees_now nodes)) short
+    left_is_bounded (hash_by hash (key_in nodes)) (own_by eq (key_in nodes) (key_of o)) c m first peak (runs.fits (key_in nodes) (agrees_now (key_in nodes))) short
 
 module _ {K V : Type 0} (eq : K → K → Bool) (hash : K → ℕ) (first : ℕ) where
   -- what a call has left, in the segment that it fits

@@ -13,14 +13,15 @@ use Rattle.moka_buckets.specs.KeyOps.{key_of}
 use Rattle.moka_buckets.specs.declared.array.Arrays.{Arrays}
 use Rattle.moka_buckets.specs.declared.node.Node.{Node}
 use Rattle.moka_buckets.specs.declared.bucket_call.BucketCall.{BucketCall}
-use Rattle.moka_buckets.specs.Nodes.{hash_by, own_by, key_in, pair_at, Agrees}
+use Rattle.moka_pairs.specs.Keys.{hash_by, own_by}
+use Rattle.moka_buckets.specs.Nodes.{key_in, pair_at, Agrees}
 use Rattle.moka_buckets.specs.Arrays.{memory_of}
 use Rattle.moka_buckets.specs.Making.{CanMake}
 use Rattle.moka_buckets.specs.Tables.{choose, found_by, RunsOn}
 use Rattle.moka_buckets.specs.Putting.{WillPut, opened, puts_at, puts_if, spare_of, Stays}
 use Rattle.moka_buckets.specs.Accesses.{Accesses, wanted_by}
 use Rattle.moka_buckets.specs.Steps.{Places, answered, asked, turn_by, CanBegin, Done, Turned}
-use Rattle.moka_buckets.proofs.Turning.{agrees_now}
+use Rattle.moka_pairs.proofs.Names.{agrees_now}
 use Rattle.moka_buckets.proofs.Advancing.{can_access, can_take, step_turned}
 use Rattle.moka_buckets.proofs.Doing.{Grown, Kept, agrees_before, done, kept}
 use Rattle.moka_buckets.proofs.Once.{wanted_is}
@@ -53,7 +54,7 @@ module _ {K V : Type 0} (eq : K → K → Bool) (laws : IsEquivalence eq) (hash 
     opens (Going c) runs want found asks =
         let keys = key_in nodes in
         let seen : Effect (hash_by hash keys) (own_by eq keys (key_of before.operation)) (access_of c) saw (memory_of s) (memory_of t) =
-        subst (λ x. Effect (hash_by hash keys) (own_by eq keys (key_of before.operation)) x saw (memory_of s) (memory_of t)) want (effect keys (agrees_now nodes)) in
+        subst (λ x. Effect (hash_by hash keys) (own_by eq keys (key_of before.operation)) x saw (memory_of s) (memory_of t)) want (effect keys (agrees_now (key_in nodes))) in
         asks_open (hash_by hash keys) (own_by eq keys (key_of before.operation)) (memory_of s) (memory_of t) c saw runs.rests runs.walks seen found asks
 
     module _ (more : List (Node K V)) (spare : Option (Node K V)) (spare_is : spare ≡ spare_of before saw) (table : Step) (table_is : table ≡ after before.table saw)

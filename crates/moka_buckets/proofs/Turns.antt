@@ -2,7 +2,6 @@
 use Rattle.std.proofs.Common.{◌≡◌, ℕ, ◌<◌, ◌≤◌, max, Bool, true, false, cond, List, Option, Some, None, IsSome, refl, sym, ap, subst, ◌∙◌, arith}
 use Rattle.std.proofs.lemmas.Bool.{false≢true}
 use Rattle.std.specs.Cmp.{IsEquivalence}
-use Rattle.std.specs.List.{slice_get}
 use Rattle.std.specs.Option.{option_map, option_map_or}
 use Rattle.std.proofs.lemmas.List.Sorted.{IsPermutation-sym, length_permutation}
 use Rattle.moka_hist.specs.Tables.{answer_of}
@@ -18,7 +17,7 @@ use Rattle.moka_words.specs.declared.accesses.Choice.TheVariants as choice
 use Rattle.moka_words.specs.declared.accesses.Seen.{Seen}
 use Rattle.moka_words.specs.declared.accesses.Seen.TheVariants as seen
 use Rattle.moka_words.specs.Words.{stored_in}
-use Rattle.moka_words.specs.Effect.{Memory, Effect, LaterMemory}
+use Rattle.moka_words.specs.Effect.{Memory, Effect}
 use Rattle.moka_growth.specs.declared.kinds.CallKind.{CallKind}
 use Rattle.moka_growth.specs.Calls.{Point, Call, Ending, Step, Going, Decided, wanted, access_of, next_of, goes, chosen, removed}
 use Rattle.moka_growth.specs.Calls as call
@@ -28,14 +27,19 @@ use Rattle.moka_growth.specs.Counts.{Recounts, IsCounted}
 use Rattle.moka_growth.specs.Left.{left}
 use Rattle.moka_growth.specs.Turns.{Leads}
 use Rattle.moka_buckets.specs.declared.node.Node.{Node}
-use Rattle.moka_buckets.specs.Nodes.{hash_by, same_by, own_by, key_in, pair_at, Agrees}
+use Rattle.moka_pairs.specs.Keys.{hash_by, own_by}
+use Rattle.moka_buckets.specs.Nodes.{key_in, pair_at, pair_in, Agrees}
 use Rattle.moka_buckets.specs.Tables.{IsNoWalk, Puts, choose, found_before, found_by, found_loaded, is_look, put_by, map_of, kind_of, IsWell, Runs, RunsOn}
 use Rattle.moka_buckets.specs.Putting.{puts_at}
 use Rattle.moka_buckets.specs.Steps.{answered, answered_at, asked, turn_by, Turned}
 use Rattle.moka_buckets.proofs.Courses.{Comes, ComesTo, Ended, ByChange, ByLook, EndsBy, IsNoChange, answers_found, course}
 use Rattle.moka_buckets.proofs.Chosen.{left_by, look_of, look_puts, out_by_choice, out_present, put_by_choice, put_named, stored_pair}
-use Rattle.moka_buckets.proofs.Found.{finds_kept}
-use Rattle.moka_buckets.proofs.Turning.{Sees, Sound, agrees_now, found_is, map_kept, sound_after, counted_after, short_after, fits_after, keeps_after, ends_after, falls_after, later_after, others_after, count_after, count_out, map_after, map_out, present_pair}
+use Rattle.moka_pairs.specs.Segments.{LaterAll, Sees, SoundAll}
+use Rattle.moka_pairs.proofs.Names.{agrees_now, hashed_by}
+use Rattle.moka_pairs.proofs.Found.{finds_kept}
+use Rattle.moka_pairs.proofs.Steps.{sound_after, counted_after, short_after, fits_after, fits_last, keeps_after, ends_after, falls_after, later_after}
+use Rattle.moka_pairs.proofs.Mapped.{count_after, count_out, map_after, map_found, map_kept, map_out, present_pair}
+use Rattle.moka_buckets.proofs.Known.{are_keys, key_of_pair}
 
 -- a call that rests is answered nothing
 pub no_choice : (hash : ℕ → ℕ) (own : ℕ → Bool) (h : ℕ) (old new : Memory) (p : Point) (s : Seen) → Rests p →
@@ -105,12 +109,23 @@ is_going e = cc
 -- the node of the pair that is to be stored has the call's key
 own_stored : {K V : Type 0} (eq : K → K → Bool) → IsEquivalence eq → (nodes : List (Node K V)) (key : K) (stored : Stored V) (n : ℕ) →
     pair_at nodes (Some n) ≡ Some (key, stored) → (keys : ℕ → Option K) → Agrees keys nodes → own_by eq keys key n ≡ true
-own_stored {K} {V} eq laws nodes key stored n filled keys agrees = by (slice_get nodes n) refl filled
-  where
-    by : (x : Option (Node K V)) → slice_get nodes n ≡ x → option_map {U = K × Stored V} (λ node. (node.key, node.stored)) x ≡ Some (key, stored) →
-        own_by eq keys key n ≡ true
-    by None e f = absurd (cc f)
-    by (Some node) e f = ap (λ k. option_map_or (eq key) k false) (agrees n node e ∙ ap (option_map (λ p. p.0)) f) ∙ laws.refl key
+own_stored eq laws nodes key stored n filled keys agrees =
+    ap (λ k. option_map_or (eq key) k false) (agrees n key (key_of_pair nodes n key stored filled)) ∙ laws.refl key
+
+-- an operation's call that fits a memory fits each later one
+pub runs_last : {K V : Type 0} (eq : K → K → Bool) → IsEquivalence eq → (hash : K → ℕ) → ((x y : K) → eq x y ≡ true → hash x ≡ hash y) →
+    (nodes : List (Node K V)) (old new : Memory) → SoundAll eq hash (key_in nodes) old → LaterAll eq (key_in nodes) old new →
+    (o : KeyOp K V) (stored : Option ℕ) (step : Step) → RunsOn eq hash old nodes o stored step → RunsOn eq hash new nodes o stored step
+runs_last eq laws hash respects nodes old new sound later o stored (Decided e) r = r
+runs_last eq laws hash respects nodes old new sound later o stored (Going d) r = record {
+  kind = r.kind;
+  hashed = r.hashed;
+  fits = fits_last eq laws hash respects (key_in nodes) (Some (key_of o)) d old new sound later (hashed_by hash (key_of o) d r.hashed) r.rests r.fits;
+  rests = r.rests;
+  walks = r.walks;
+  puts = r.puts;
+  filled = r.filled;
+}
 
 some_word : {v w : Word} → Some v ≡ Some w → v ≡ w
 some_word e = cc
@@ -124,48 +139,38 @@ module _ {K V : Type 0} (eq : K → K → Bool) (laws : IsEquivalence eq) (hash 
     (runs : Runs eq hash old nodes o stored c)
     (effect : (keys : ℕ → Option K) → Agrees keys nodes → Effect (hash_by hash keys) (own_by eq keys (key_of o)) (access_of c) saw old new)
     (counts : Recounts (access_of c) saw old new) where
-  pub sees_of : Sees eq laws hash respects nodes (key_of o) c saw old new
+  pub sees_of : Sees eq hash (key_in nodes) (Some (key_of o)) c saw old new
   sees_of = record {
-    hashed = runs.hashed;
+    hashed = hashed_by hash (key_of o) c runs.hashed;
     fits = runs.fits;
     effect = effect;
-    counts = counts;
     choice = λ keys agrees. no_choice (hash_by hash keys) (own_by eq keys (key_of o)) c.hash old new c.point saw runs.rests (effect keys agrees);
   }
 
   counted : IsCounted new
-  counted = counted_after eq laws hash respects nodes (key_of o) c saw old new well.sound sees_of well.counted
+  counted = counted_after eq laws hash respects (key_in nodes) (Some (key_of o)) c saw old new well.sound sees_of counts well.counted
 
   well_new : (more : ℕ) → peak ≤ more → new.len ≤ more → IsWell eq hash new nodes first more
   well_new more longer few = record {
-    sound = sound_after eq laws hash respects nodes (key_of o) c saw old new well.sound sees_of;
+    sound = sound_after eq laws hash respects (key_in nodes) (Some (key_of o)) c saw old new well.sound sees_of;
     hashed = well.hashed;
     counted = counted;
-    short = short_after eq laws hash respects nodes (key_of o) c saw old new well.sound sees_of first peak more well.short longer
+    short = short_after eq laws hash respects (key_in nodes) (Some (key_of o)) c saw old new well.sound sees_of first peak more well.short longer
         (subst (λ n. n ≤ more) counted few);
   }
 
-  later : (keys : ℕ → Option K) → Agrees keys nodes → LaterMemory (same_by eq keys) old new
-  later = later_after eq laws hash respects nodes (key_of o) c saw old new well.sound sees_of
+  later : LaterAll eq (key_in nodes) old new
+  later = later_after eq laws hash respects (key_in nodes) (Some (key_of o)) c saw old new well.sound sees_of
 
   others : (p : KeyOp K V) (kept : Option ℕ) (other : Step) → RunsOn eq hash old nodes p kept other → RunsOn eq hash new nodes p kept other
-  others p kept (Decided e) r = r
-  others p kept (Going d) r = record {
-    kind = r.kind;
-    hashed = r.hashed;
-    fits = others_after eq laws hash respects nodes (key_of o) c saw old new well.sound sees_of (key_of p) d r.hashed r.rests r.fits;
-    rests = r.rests;
-    walks = r.walks;
-    puts = r.puts;
-    filled = r.filled;
-  }
+  others p kept other r = runs_last eq laws hash respects nodes old new well.sound later p kept other r
 
   -- where the map is kept the count is
   same_count : KeepsMap old new → new.len ≡ old.len
   same_count keeps = counted ∙ (length_permutation (present_nodes old) (present_nodes new) keeps ∙ sym well.counted)
 
   kept_moves : KeepsMap old new → MovesKey eq o (map_of eq old nodes) old.len turn.Going (map_of eq new nodes) new.len
-  kept_moves keeps = (map_kept eq laws hash respects nodes old new (well_new (max peak new.len) (omega arith) (omega arith)).sound keeps, same_count keeps)
+  kept_moves keeps = (map_kept eq laws hash respects (key_in nodes) (pair_in nodes) old new (well_new (max peak new.len) (omega arith) (omega arith)).sound keeps, same_count keeps)
 
   abbrev f : Option ℕ → Choice
   f = choose nodes o stored
@@ -183,18 +188,18 @@ module _ {K V : Type 0} (eq : K → K → Bool) (laws : IsEquivalence eq) (hash 
   goes_on : (d : Call) → next_of c saw ≡ Going d → d.kind ≡ c.kind → d.hash ≡ c.hash → Rests d.point → IsNoWalk d.point → Puts nodes o stored d.point → Result (Going d)
   goes_on d is same_kind same_hash rests walks puts = record {
     well = well_new;
-    moves = kept_moves (keeps_after eq laws hash respects nodes (key_of o) c saw old new well.sound sees_of d is);
+    moves = kept_moves (keeps_after eq laws hash respects (key_in nodes) (Some (key_of o)) c saw old new well.sound sees_of d is);
     going = λ e. (
       record {
         kind = same_kind ∙ runs.kind;
         hashed = same_hash ∙ runs.hashed;
-        fits = fits_after eq laws hash respects nodes (key_of o) c saw old new well.sound sees_of d is;
+        fits = fits_after eq laws hash respects (key_in nodes) (Some (key_of o)) c saw old new well.sound sees_of d is;
         rests = rests;
         walks = walks;
         puts = puts;
         filled = runs.filled;
       },
-      (falls_after eq laws hash respects nodes (key_of o) c saw old new well.sound sees_of first peak d well.short is).0 runs.rests,
+      (falls_after eq laws hash respects (key_in nodes) (Some (key_of o)) c saw old new well.sound sees_of first peak d well.short is).0 runs.rests,
     );
     others = others;
     later = later;
@@ -204,16 +209,16 @@ module _ {K V : Type 0} (eq : K → K → Bool) (laws : IsEquivalence eq) (hash 
   decides : (e : Ending) → MovesKey eq o (map_of eq old nodes) old.len (turn.Decided (answer_of (pair_at nodes answers))) (map_of eq new nodes) new.len → Result (Decided e)
   decides e moves = record { well = well_new; moves = moves; going = λ e. absurd (is_going e); others = others; later = later }
 
-  sound_new : Sound eq laws hash respects nodes new
-  sound_new = sound_after eq laws hash respects nodes (key_of o) c saw old new well.sound sees_of
+  sound_new : SoundAll eq hash (key_in nodes) new
+  sound_new = sound_after eq laws hash respects (key_in nodes) (Some (key_of o)) c saw old new well.sound sees_of
 
   -- the pair under the key is that of the node that is found
   here : (x : Option ℕ) → Finds (own_by eq (key_in nodes) (key_of o)) old x → map_of eq old nodes (key_of o) ≡ pair_at nodes x
-  here x finds = ap (pair_at nodes) (found_is eq laws hash respects nodes old well.sound (key_of o) x finds)
+  here x finds = map_found eq laws hash respects (key_in nodes) (pair_in nodes) old well.sound (key_of o) x finds
 
   has_pair : (x : Option ℕ) → Finds (own_by eq (key_in nodes) (key_of o)) old x → IsSome x → IsSome (pair_at nodes x)
   has_pair None finds has = absurd (false≢true has)
-  has_pair (Some n) finds has = present_pair eq laws hash respects nodes old well.sound n finds.0
+  has_pair (Some n) finds has = present_pair eq laws hash respects (key_in nodes) (pair_in nodes) (are_keys nodes) old well.sound n finds.0
 
   -- it leaves what it found
   leaves : (e : Ending) (x : Option ℕ) → (puts_at o x ≡ true → IsSome stored) → answers ≡ cond (is_look o) x None → f x ≡ choice.Keep →
@@ -222,7 +227,7 @@ module _ {K V : Type 0} (eq : K → K → Bool) (laws : IsEquivalence eq) (hash 
       let (said, stays, count) = left_by nodes eq (map_of eq old nodes) old.len o stored x named keep (here x finds) (has_pair x finds) in
       decides e (
         ap (λ n. answer_of (pair_at nodes n)) is ∙ ap answer_of (sym said),
-        λ q. map_kept eq laws hash respects nodes old new sound_new keeps q ∙ sym (stays q),
+        λ q. map_kept eq laws hash respects (key_in nodes) (pair_in nodes) old new sound_new keeps q ∙ sym (stays q),
         same_count keeps ∙ sym count,
       )
 
@@ -231,7 +236,7 @@ module _ {K V : Type 0} (eq : K → K → Bool) (laws : IsEquivalence eq) (hash 
       let (x, kept, keep, same) = look_of nodes o stored found e ends in
       let both : Ends (own_by eq (key_in nodes) (key_of o)) c.point (call.Kept x) old new =
       subst (λ y. Ends (own_by eq (key_in nodes) (key_of o)) c.point y old new) kept
-      (ends_after eq laws hash respects nodes (key_of o) c saw old new well.sound sees_of e is) in
+      (ends_after eq laws hash respects (key_in nodes) (Some (key_of o)) c saw old new well.sound sees_of e is) in
       leaves e x (λ puts. absurd (look_puts o found e ends x puts)) (answers_found o (own_by eq (key_in nodes) (key_of o)) old c.hash c.point nay ∙ same) keep both.0 both.1
 
   -- its change was made
@@ -248,8 +253,8 @@ module _ {K V : Type 0} (eq : K → K → Bool) (laws : IsEquivalence eq) (hash 
         subst (λ w. ChangesMap (own_by eq (key_in nodes) (key_of o)) x (stored_in w) old new) (sym to_is) changes in
         decides e (
           ap (λ k. answer_of (pair_at nodes k)) (said ∙ ap (found_before from) (sym to_is)) ∙ ap answer_of (sym answer),
-          λ q. map_after eq laws hash respects nodes old new well.sound sound_new (key_of o) st x n (filled.1 ∙ pair) change q ∙ sym (map q),
-          count_after eq laws hash respects nodes old new well.sound well.counted counted (key_of o) x n finds change ∙ sym count,
+          λ q. map_after eq laws hash respects (key_in nodes) (pair_in nodes) old new sound_new (key_of o) st x n (key_of_pair nodes n (key_of o) st (filled.1 ∙ pair)) (filled.1 ∙ pair) change q ∙ sym (map q),
+          count_after eq laws hash respects (key_in nodes) (pair_in nodes) (are_keys nodes) old new well.sound well.counted counted (key_of o) x n finds change ∙ sym count,
         )
 
     takes_out : f (stored_in from) ≡ choice.Remove → (m : ℕ) → Tomb m ≡ to → Result (Decided e)
@@ -260,8 +265,8 @@ module _ {K V : Type 0} (eq : K → K → Bool) (laws : IsEquivalence eq) (hash 
         subst (λ w. ChangesMap (own_by eq (key_in nodes) (key_of o)) x (stored_in w) old new) (sym to_is) changes in
         decides e (
           ap (λ k. answer_of (pair_at nodes k)) (said ∙ ap (found_before from) (sym to_is)) ∙ ap answer_of (sym answer),
-          λ q. map_out eq laws hash respects nodes old new well.sound sound_new (key_of o) x change q ∙ sym (map q),
-          count_out eq laws hash respects nodes old new well.counted counted (key_of o) x (out_present nodes o stored x is) change ∙ sym count,
+          λ q. map_out eq laws hash respects (key_in nodes) (pair_in nodes) old new sound_new (key_of o) x change q ∙ sym (map q),
+          count_out eq laws hash respects (key_in nodes) old new well.counted counted (key_of o) x (out_present nodes o stored x is) change ∙ sym count,
         )
 
     tombs : f (stored_in from) ≡ choice.Remove → (x : Option ℕ) → option_map Tomb x ≡ Some to → Result (Decided e)
@@ -279,7 +284,7 @@ module _ {K V : Type 0} (eq : K → K → Bool) (laws : IsEquivalence eq) (hash 
       let own_now = own_by eq (key_in nodes) (key_of o) in
       let both : Finds own_now old (stored_in from) × ChangesMap own_now (stored_in from) (stored_in to) old new =
       subst (λ p. Ends own_now p (call.Changed (stored_in from)) old new) at_change (subst (λ y. Ends own_now c.point y old new) ends
-      (ends_after eq laws hash respects nodes (key_of o) c saw old new well.sound sees_of e is)) in
+      (ends_after eq laws hash respects (key_in nodes) (Some (key_of o)) c saw old new well.sound sees_of e is)) in
       changed e from to (ap (λ p. found_by o own_now old (wanted c.hash p)) at_change) both.0 both.1 (f (stored_in from)) refl
       (subst (Puts nodes o stored) at_change runs.puts)
 
@@ -290,7 +295,7 @@ module _ {K V : Type 0} (eq : K → K → Bool) (laws : IsEquivalence eq) (hash 
 
     module _ (is : next_of c saw ≡ Going (record { kind = k; hash = h; spent = spent; point = call.Choose a l v w })) (same_kind : k ≡ c.kind) (same_hash : h ≡ c.hash) where
       mid_keeps : KeepsMap old new
-      mid_keeps = keeps_after eq laws hash respects nodes (key_of o) c saw old new well.sound sees_of asking is
+      mid_keeps = keeps_after eq laws hash respects (key_in nodes) (Some (key_of o)) c saw old new well.sound sees_of asking is
 
       few : new.len ≤ peak
       few = let same = same_count mid_keeps in let count = well.counted in let short = well.short.keys in omega arith
@@ -300,12 +305,11 @@ module _ {K V : Type 0} (eq : K → K → Bool) (laws : IsEquivalence eq) (hash 
 
       -- it is given this answer
       then : (x : Choice) → ((keys : ℕ → Option K) → Agrees keys nodes → IsChoice (own_by eq keys (key_of o)) (seen.Chosen x)) →
-          Sees eq laws hash respects nodes (key_of o) asking (seen.Chosen x) new new
+          Sees eq hash (key_in nodes) (Some (key_of o)) asking (seen.Chosen x) new new
       then x fair = record {
-        hashed = same_hash ∙ runs.hashed;
-        fits = fits_after eq laws hash respects nodes (key_of o) c saw old new well.sound sees_of asking is;
+        hashed = hashed_by hash (key_of o) asking (same_hash ∙ runs.hashed);
+        fits = fits_after eq laws hash respects (key_in nodes) (Some (key_of o)) c saw old new well.sound sees_of asking is;
         effect = λ keys agrees. (λ a. refl, record { arrays = refl; rooted = refl; fresh = refl });
-        counts = (refl, λ a. refl);
         choice = fair;
       }
 
@@ -320,7 +324,7 @@ module _ {K V : Type 0} (eq : K → K → Bool) (laws : IsEquivalence eq) (hash 
           record {
             kind = same_kind ∙ runs.kind;
             hashed = same_hash ∙ runs.hashed;
-            fits = fits_after eq laws hash respects nodes (key_of o) asking (seen.Chosen x) new new mid_well.sound (then x fair) e2 leads;
+            fits = fits_after eq laws hash respects (key_in nodes) (Some (key_of o)) asking (seen.Chosen x) new new mid_well.sound (then x fair) e2 leads;
             rests = tt;
             walks = tt;
             puts = ap (λ y. put_by y w) x_is ∙ put;
@@ -337,8 +341,8 @@ module _ {K V : Type 0} (eq : K → K → Bool) (laws : IsEquivalence eq) (hash 
 
           lower : left first peak new e2 < left first peak old c
           lower =
-              let one = (falls_after eq laws hash respects nodes (key_of o) c saw old new well.sound sees_of first peak asking well.short is).0 runs.rests in
-              let two = (falls_after eq laws hash respects nodes (key_of o) asking (seen.Chosen x) new new mid_well.sound (then x fair) first peak e2 mid_well.short leads).1 in
+              let one = (falls_after eq laws hash respects (key_in nodes) (Some (key_of o)) c saw old new well.sound sees_of first peak asking well.short is).0 runs.rests in
+              let two = (falls_after eq laws hash respects (key_in nodes) (Some (key_of o)) asking (seen.Chosen x) new new mid_well.sound (then x fair) first peak e2 mid_well.short leads).1 in
               omega arith
 
       -- or leaves what it found
@@ -347,7 +351,7 @@ module _ {K V : Type 0} (eq : K → K → Bool) (laws : IsEquivalence eq) (hash 
       asks_kept named nay there keep =
           let own_now = own_by eq (key_in nodes) (key_of o) in
           let both : Ends own_now (call.Choose a l v w) (call.Kept (stored_in w)) new new =
-          ends_after eq laws hash respects nodes (key_of o) asking (seen.Chosen choice.Keep) new new mid_well.sound (then choice.Keep (λ keys agrees. tt)) (call.Kept (stored_in w)) refl in
+          ends_after eq laws hash respects (key_in nodes) (Some (key_of o)) asking (seen.Chosen choice.Keep) new new mid_well.sound (then choice.Keep (λ keys agrees. tt)) (call.Kept (stored_in w)) refl in
           leaves (call.Kept (stored_in w)) (stored_in w) named
           (answers_found o own_now old c.hash c.point nay ∙ ap (λ x. cond (is_look o) x None) (sym there)) keep
           (finds_kept own_now new old (stored_in w) (IsPermutation-sym (present_nodes old) (present_nodes new) mid_keeps) both.0) mid_keeps
@@ -375,7 +379,7 @@ module _ {K V : Type 0} (eq : K → K → Bool) (laws : IsEquivalence eq) (hash 
       asks named nay there choice.Keep x_is = asks_kept named nay there x_is
       asks named nay there (choice.Put n) x_is = asks_put n x_is
       asks named nay there choice.Remove x_is =
-          let fits = fits_after eq laws hash respects nodes (key_of o) c saw old new well.sound sees_of asking is (key_in nodes) (agrees_now nodes) in
+          let fits = fits_after eq laws hash respects (key_in nodes) (Some (key_of o)) c saw old new well.sound sees_of asking is (key_in nodes) (agrees_now (key_in nodes)) in
           asks_out w refl fits.1 x_is (out_present nodes o stored (stored_in w) x_is)
 
   -- the step goes on, asks, or ends
@@ -413,4 +417,4 @@ turned eq laws hash respects nodes first peak o stored c saw old new well runs n
     (turn_by s (answer_of (pair_at nodes (found_by o (own_by eq (key_in nodes) (key_of o)) old (access_of c))))) new s) (sym is)
     (turned_by eq laws hash respects nodes first peak o stored c saw old new well runs effect counts (next_of c saw) named refl
     (course o (hash_by hash (key_in nodes)) (own_by eq (key_in nodes) (key_of o)) old new c saw runs.kind runs.rests runs.walks
-    (effect (key_in nodes) (agrees_now nodes)))))
+    (effect (key_in nodes) (agrees_now (key_in nodes))))))

@@ -10,12 +10,13 @@ use Rattle.moka_calls.specs.Standing.{Awaits, IsGoing, Wants, after}
 use Rattle.moka_calls.proofs.Lengths.{seen_is_taken}
 use Rattle.moka_buckets.specs.declared.array.Arrays.{Arrays}
 use Rattle.moka_buckets.specs.declared.node.Node.{Node}
-use Rattle.moka_buckets.specs.Nodes.{hash_by, same_by, mine_by, key_in, Agrees}
+use Rattle.moka_pairs.specs.Keys.{hash_by, same_by, mine_by}
+use Rattle.moka_buckets.specs.Nodes.{key_in, Agrees}
 use Rattle.moka_buckets.specs.Arrays.{memory_of}
 use Rattle.moka_buckets.specs.Making.{CanMake}
 use Rattle.moka_buckets.specs.Tables.{IsWell}
 use Rattle.moka_buckets.specs.Walks.{owns_none, WalksOn, Lead}
-use Rattle.moka_buckets.proofs.Turning.{agrees_now}
+use Rattle.moka_pairs.proofs.Names.{agrees_now}
 use Rattle.moka_buckets.proofs.Possible.{are_short, can_rest}
 use Rattle.moka_buckets.proofs.Led.{led, sound_led}
 
@@ -24,8 +25,8 @@ module _ {K V : Type 0} (eq : K → K → Bool) (laws : IsEquivalence eq) (hash 
   pub can_walk : (step : Step) (a : Access) → IsGoing step → WalksOn eq hash (memory_of s) nodes step → Wants step a → CanMake (memory_of s) nodes a
   can_walk (Decided e) a going walks wants = absurd going
   can_walk (Going c) a going walks wants = subst (λ x. CanMake (memory_of s) nodes x) (sym wants)
-      (can_rest eq hash nodes s (well.sound (key_in nodes) (agrees_now nodes)) well.counted owns_none c.hash c.point walks.seeks
-      (walks.fits (key_in nodes) (agrees_now nodes)))
+      (can_rest eq hash nodes s (well.sound (key_in nodes) (agrees_now (key_in nodes))) well.counted owns_none c.hash c.point walks.seeks
+      (walks.fits (key_in nodes) (agrees_now (key_in nodes))))
 
   module _ (t : Arrays) (saw : Seen) where
     abbrev Saw : Access → Type 0
@@ -36,7 +37,7 @@ module _ {K V : Type 0} (eq : K → K → Bool) (laws : IsEquivalence eq) (hash 
     walk_takes (Decided e) a going walks wants effect counts = absurd going
     walk_takes (Going c) a going walks wants effect counts =
         let keys = key_in nodes in
-        let now = agrees_now nodes in
+        let now = agrees_now (key_in nodes) in
         let effect_c : Saw (access_of c) = subst Saw wants effect in
         let counts_c : Recounts (access_of c) saw (memory_of s) (memory_of t) = subst (λ x. Recounts x saw (memory_of s) (memory_of t)) wants counts in
         seen_is_taken (hash_by hash keys) (same_by eq keys) (mine_by keys) owns_none (access_of c) saw (memory_of s) (memory_of t)

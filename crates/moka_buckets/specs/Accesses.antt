@@ -9,7 +9,8 @@ use Rattle.moka_growth.specs.Calls.{Step, Going, Decided, access_of}
 use Rattle.moka_growth.specs.Counts.{Recounts}
 use Rattle.moka_buckets.specs.declared.node.Node.{Node}
 use Rattle.moka_buckets.specs.declared.part.Part.{Part}
-use Rattle.moka_buckets.specs.Nodes.{hash_by, own_for, Agrees}
+use Rattle.moka_pairs.specs.Keys.{hash_by, own_for}
+use Rattle.moka_buckets.specs.Nodes.{Agrees}
 use Rattle.moka_buckets.specs.declared.bucket_call.BucketCall.{BucketCall}
 use Rattle.moka_buckets.specs.Parts.{memory_at, peak_at}
 use Rattle.moka_buckets.specs.Putting.{Stays}

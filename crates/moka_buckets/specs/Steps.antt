@@ -15,7 +15,8 @@ use Rattle.std.specs.declared.alloc.AllocError.{AllocError}
 use Rattle.moka_table.specs.Map.{SameMap}
 use Rattle.moka_buckets.specs.declared.node.Node.{Node}
 use Rattle.moka_buckets.specs.declared.bucket_call.BucketCall.{BucketCall}
-use Rattle.moka_buckets.specs.Nodes.{same_by, Agrees}
+use Rattle.moka_pairs.specs.Keys.{same_by}
+use Rattle.moka_buckets.specs.Nodes.{Agrees}
 use Rattle.moka_buckets.specs.Tables.{map_of, left_in, IsWell, RunsOn}
 use Rattle.moka_buckets.specs.Putting.{puts_if, Stays}
 

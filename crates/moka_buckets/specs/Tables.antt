@@ -1,7 +1,6 @@
 -- What a table keeps, what its calls know, and the map that it stands for.
 use Rattle.std.specs.Prelude.{◌≡◌, ℕ, Bool, true, false, cond, List, Option, Some, None, IsSome, is_some, if◌then◌else◌}
 use Rattle.std.specs.Option.{option_map}
-use Rattle.std.specs.List.{find}
 use Rattle.moka_hist.specs.Tables.{taken_by}
 use Rattle.moka_hist.specs.declared.records.Stored.{Stored}
 use Rattle.moka_buckets.specs.KeyOps.{key_of}
@@ -17,16 +16,16 @@ use Rattle.moka_words.specs.Words.{stored_in, word_at}
 use Rattle.moka_words.specs.Effect.{Memory}
 use Rattle.moka_growth.specs.declared.kinds.CallKind.{CallKind}
 use Rattle.moka_growth.specs.declared.kinds.CallKind.TheVariants as kind
-use Rattle.moka_growth.specs.Sound.{IsSound}
 use Rattle.moka_growth.specs.Calls.{Point, Call, Step, Going, Decided}
 use Rattle.moka_growth.specs.Calls as call
-use Rattle.moka_growth.specs.Fits.{Fits, Rests}
-use Rattle.moka_growth.specs.Maps.{present_nodes}
+use Rattle.moka_growth.specs.Fits.{Rests}
 use Rattle.moka_growth.specs.Counts.{IsCounted}
 use Rattle.moka_growth.specs.Left.{IsShort, left}
 use Rattle.moka_table.specs.Map.{Pairs}
 use Rattle.moka_buckets.specs.declared.node.Node.{Node}
-use Rattle.moka_buckets.specs.Nodes.{hash_by, same_by, own_by, mine_by, key_in, pair_at, Agrees, AreHashed}
+use Rattle.moka_pairs.specs.Pairs as numbered
+use Rattle.moka_pairs.specs.Segments.{FitsAll, SoundAll}
+use Rattle.moka_buckets.specs.Nodes.{key_in, pair_in, pair_at, AreHashed}
 
 -- no operation lists the nodes of a segment
 abbrev pub IsNoWalk : Point → Type 0
@@ -73,15 +72,14 @@ left_in first peak m (Decided e) = 0
 module _ {K V : Type 0} where
   -- the pair of the node that is present under the key
   abbrev pub map_of : (K → K → Bool) → Memory → List (Node K V) → Pairs K V
-  map_of eq m nodes key = pair_at nodes (find (own_by eq (key_in nodes) key) (present_nodes m))
+  map_of eq m nodes key = numbered.map_of eq m (key_in nodes) (pair_in nodes) key
 
   -- The segment is sound, and short for the most keys that it had; the count of keys is right. Of
   -- keys that are still to come nothing is said:
   -- so it stays whatever nodes come.
   pub record IsWell (eq : K → K → Bool) (hash : K → ℕ) (m : Memory) (nodes : List (Node K V))
       (first peak : ℕ) : Type 0 where
-    pub sound : (keys : ℕ → Option K) → Agrees keys nodes →
-        IsSound (hash_by hash keys) (same_by eq keys) (mine_by keys) m
+    pub sound : SoundAll eq hash (key_in nodes) m
     pub hashed : AreHashed hash nodes
     pub counted : IsCounted m
     pub short : IsShort first peak m
@@ -128,18 +126,13 @@ module _ {K V : Type 0} where
       put_by (choose nodes o made (stored_in from)) from ≡ Some to
   Puts nodes o made p = Unit {0}
 
-  -- the call fits the memory, whatever keys are still to come
-  abbrev pub FitsAll : (K → K → Bool) → (K → ℕ) → Memory → List (Node K V) → (key : K) → Call → Type 0
-  FitsAll eq hash m nodes key c = (keys : ℕ → Option K) → Agrees keys nodes →
-      Fits (hash_by hash keys) (own_by eq keys key) m c
-
   -- a call for this operation goes on; `node` has the pair to be stored, once it was named
   pub record Runs (eq : K → K → Bool) (hash : K → ℕ) (m : Memory) (nodes : List (Node K V))
       (o : KeyOp K V) (node : Option ℕ) (c : Call) :
       Type 0 where
     pub kind : c.kind ≡ kind_of o
     pub hashed : c.hash ≡ hash (key_of o)
-    pub fits : FitsAll eq hash m nodes (key_of o) c
+    pub fits : FitsAll eq hash (key_in nodes) (Some (key_of o)) m c
     pub rests : Rests c.point
     pub walks : IsNoWalk c.point
     pub puts : Puts nodes o node c.point

@@ -13,7 +13,8 @@ use Rattle.moka_growth.specs.Left.{left}
 use Rattle.moka_growth.specs.Listing.{listed, Differ, Lists, HasListed, ListsKey}
 use Rattle.moka_calls.specs.Standing.{IsGoing, listed_next}
 use Rattle.moka_buckets.specs.declared.node.Node.{Node}
-use Rattle.moka_buckets.specs.Nodes.{hash_by, same_by, own_by, key_in, Agrees}
+use Rattle.moka_pairs.specs.Keys.{hash_by, same_by, own_by}
+use Rattle.moka_buckets.specs.Nodes.{key_in, Agrees}
 use Rattle.moka_buckets.specs.Tables.{map_of, left_in, IsWell}
 
 -- the call seeks no key

@@ -2,7 +2,8 @@
 
 ghost use Rattle.std.specs.Prelude.{◌≡◌, cond, None};
 ghost use Rattle.moka_buckets.specs.KeyOps.{key_of};
-ghost use Rattle.moka_buckets.specs.Nodes.{key_in, own_by};
+ghost use Rattle.moka_pairs.specs.Keys.{own_by};
+ghost use Rattle.moka_buckets.specs.Nodes.{key_in};
 ghost use Rattle.moka_buckets.specs.Arrays.{memory_of};
 ghost use Rattle.moka_buckets.specs.Tables.{found_at, found_before, found_by, is_look};
 

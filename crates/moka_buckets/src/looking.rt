@@ -5,7 +5,8 @@ ghost use Rattle.std.specs.Fn.{ComputesKey};
 ghost use Rattle.std.specs.Int.{IsPowerOfTwo};
 ghost use Rattle.std.specs.Option.{option_copied, option_map, option_map_or};
 ghost use Rattle.moka_words.specs.Words.{node_of};
-ghost use Rattle.moka_buckets.specs.Nodes.{key_in, own_by};
+ghost use Rattle.moka_pairs.specs.Keys.{own_by};
+ghost use Rattle.moka_buckets.specs.Nodes.{key_in};
 ghost use Rattle.moka_buckets.specs.Looking.{CanLook, CanSeek, Seeks, is_end};
 ghost use Rattle.moka_buckets.specs.Parts.{map_at, map_over};
 

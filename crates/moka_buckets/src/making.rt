@@ -6,7 +6,8 @@ ghost use Rattle.moka_words.specs.Effect.{Effect};
 ghost use Rattle.moka_growth.specs.Counts.{Recounts};
 ghost use Rattle.moka_calls.specs.Standing.{MayWant};
 ghost use Rattle.moka_buckets.specs.Arrays.{ArePlaced, memory_of};
-ghost use Rattle.moka_buckets.specs.Nodes.{Agrees, AreHashed, hash_by, own_for};
+ghost use Rattle.moka_pairs.specs.Keys.{hash_by, own_for};
+ghost use Rattle.moka_buckets.specs.Nodes.{Agrees, AreHashed};
 ghost use Rattle.moka_buckets.specs.Making.{CanMake};
 
 use crate::array::Arrays;

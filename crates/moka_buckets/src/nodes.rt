@@ -7,7 +7,8 @@ ghost use Rattle.moka_hist.specs.Tables.{answer_of};
 ghost use Rattle.moka_words.specs.Words.{node_of, word_at};
 ghost use Rattle.moka_words.specs.Effect.{Effect, Memory};
 ghost use Rattle.moka_words.specs.declared.accesses.Access.TheVariants as access;
-ghost use Rattle.moka_buckets.specs.Nodes.{Agrees, AreHashed, IsNamed, hash_by, own_for, pair_at};
+ghost use Rattle.moka_pairs.specs.Keys.{hash_by, own_for};
+ghost use Rattle.moka_buckets.specs.Nodes.{Agrees, AreHashed, IsNamed, pair_at};
 ghost use Rattle.moka_buckets.specs.declared.node.Node.{Node};
 
 use crate::node::Node;

@@ -14,13 +14,14 @@ use Rattle.moka_words.specs.Effect.{Memory}
 use Rattle.moka_growth.specs.Maps.{present_nodes}
 use Rattle.moka_buckets.specs.declared.node.Node.{Node}
 use Rattle.moka_buckets.specs.declared.part.Part.{Part}
-use Rattle.moka_buckets.specs.Nodes.{own_by, key_in, pair_at}
+use Rattle.moka_pairs.specs.Keys.{own_by}
+use Rattle.moka_buckets.specs.Nodes.{key_in, pair_at}
 use Rattle.moka_buckets.specs.Tables.{map_of}
 use Rattle.moka_buckets.specs.Parts.{map_at, map_over, memory_at, segment_of}
 use Rattle.moka_buckets.specs.Views.{Buckets, map_in}
 use Rattle.moka_map.specs.Calls.{Makes}
 use Rattle.moka_map.specs.Maps.{entries, entry_of, hash_for, Removes, Stays, TakesWhere}
-use Rattle.moka_buckets.proofs.Found.{find_some}
+use Rattle.moka_pairs.proofs.Found.{find_some}
 
 one_some : {A : Type 0} {x y : A} → Some x ≡ Some y → x ≡ y
 one_some e = cc

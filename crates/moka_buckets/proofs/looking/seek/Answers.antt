@@ -2,7 +2,8 @@ use Rattle.std.proofs.Common.{ℕ, Bool, arith, subst, sym, ◌∙◌}
 use Rattle.moka_words.specs.Words.{word_at}
 use Rattle.moka_words.specs.Later.{HasOther}
 use Rattle.moka_growth.proofs.Leading.{passed_more}
-use Rattle.moka_buckets.specs.Nodes.{key_in, own_by}
+use Rattle.moka_pairs.specs.Keys.{own_by}
+use Rattle.moka_buckets.specs.Nodes.{key_in}
 use Rattle.moka_buckets.proofs.Sought.{passes}
 use Rattle.moka_buckets.proofs.looking.seek.Goals as goal
 

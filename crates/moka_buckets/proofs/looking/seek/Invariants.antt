@@ -1,7 +1,8 @@
 -- The probe has passed other keys alone.
 use Rattle.std.specs.Fn.{ComputesKey}
 use Rattle.moka_words.specs.Later.{HasPassed}
-use Rattle.moka_buckets.specs.Nodes.{key_in, own_by}
+use Rattle.moka_pairs.specs.Keys.{own_by}
+use Rattle.moka_buckets.specs.Nodes.{key_in}
 use Rattle.moka_buckets.proofs.looking.seek.Given as goal
 
 abbrev pub invariant-loop-passed : goal.invariant-loop-passed

@@ -3,7 +3,8 @@ use Rattle.std.specs.Option.{option_copied}
 use Rattle.moka_words.specs.declared.accesses.Seen.TheVariants as seen
 use Rattle.moka_words.specs.Effect.{Effect}
 use Rattle.moka_buckets.specs.Arrays.{memory_of}
-use Rattle.moka_buckets.specs.Nodes.{hash_by, own_for, IsNamed}
+use Rattle.moka_pairs.specs.Keys.{hash_by, own_for}
+use Rattle.moka_buckets.specs.Nodes.{IsNamed}
 use Rattle.moka_buckets.specs.Making.{CanMake}
 use Rattle.moka_buckets.proofs.making.make.Goals as goal
 

@@ -3,7 +3,8 @@ use Rattle.std.specs.declared.alloc.AllocError.{AllocError}
 use Rattle.moka_hist.specs.Tables.{answer_of}
 use Rattle.moka_words.specs.Effect.{Effect}
 use Rattle.moka_buckets.specs.KeyOps.{key_of}
-use Rattle.moka_buckets.specs.Nodes.{hash_by, own_by, key_in, pair_at, Agrees, AreHashed}
+use Rattle.moka_pairs.specs.Keys.{hash_by, own_by}
+use Rattle.moka_buckets.specs.Nodes.{key_in, pair_at, Agrees, AreHashed}
 use Rattle.moka_buckets.specs.Arrays.{memory_of}
 use Rattle.moka_buckets.specs.Making.{CanMake}
 use Rattle.moka_buckets.specs.Tables.{choose, found_by}

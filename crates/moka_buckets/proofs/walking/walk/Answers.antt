@@ -1,6 +1,6 @@
 use Rattle.std.proofs.Common.{subst}
 use Rattle.moka_words.specs.Effect.{Effect}
-use Rattle.moka_buckets.specs.Nodes.{hash_by, own_for}
+use Rattle.moka_pairs.specs.Keys.{hash_by, own_for}
 use Rattle.moka_buckets.specs.Arrays.{memory_of}
 use Rattle.moka_buckets.proofs.Once.{wanted_is}
 use Rattle.moka_buckets.proofs.Walks.{can_walk, walk_takes, step_led}

@@ -3,10 +3,11 @@ use Rattle.std.specs.Int.{IsPowerOfTwo}
 use Rattle.std.specs.List.{slice_get}
 use Rattle.std.specs.Option.{option_map}
 use Rattle.moka_hist.specs.declared.records.Stored.{Stored}
-use Rattle.moka_buckets.specs.Nodes.{key_in, own_by, pair_at}
+use Rattle.moka_pairs.specs.Keys.{own_by}
+use Rattle.moka_buckets.specs.Nodes.{key_in, pair_at}
 use Rattle.moka_buckets.specs.Looking.{Seeks}
 use Rattle.moka_buckets.specs.Parts.{memory_at, peak_at}
-use Rattle.moka_buckets.proofs.Turning.{agrees_now}
+use Rattle.moka_pairs.proofs.Names.{agrees_now}
 use Rattle.moka_buckets.proofs.Sought.{root_power, seek_is_map}
 use Rattle.moka_buckets.proofs.part.Part.find.Goals as goal
 
@@ -15,7 +16,7 @@ seek-requires-clause-power g c =
     let (key, by, first, can) = c.requires.can in
     let p = c.args.self.now in
     subst (λ xs. 0 < length xs → IsPowerOfTwo (length xs)) (sym c.root_words.ensures)
-    (root_power (memory_at p) (can.well.sound (key_in p.nodes.items) (agrees_now p.nodes.items)))
+    (root_power (memory_at p) (can.well.sound (key_in p.nodes.items) (agrees_now (key_in p.nodes.items))))
 
 pub returns-in-None : goal.returns-in-None
 returns-in-None g c = λ key by first computes can.

@@ -1,4 +1,4 @@
-use Rattle.moka_buckets.proofs.bucket_table.BucketTableTable.step.Goals as goal
+use Rattle.moka_buckets.proofs.bucket_table.as_table.BucketTableTable.step.Goals as goal
 
 pub returns-clause-moves : goal.returns-clause-moves
 returns-clause-moves g c = c.step_any.ensures.steps.moves

@@ -5,7 +5,7 @@ use Rattle.moka_buckets.specs.Hashing.{hash_in}
 use Rattle.moka_buckets.specs.Parts.{listed_over}
 use Rattle.moka_buckets.specs.Views.{map_in}
 use Rattle.moka_buckets.proofs.Joining.{lists_over}
-use Rattle.moka_buckets.proofs.bucket_table.BucketTableTable.pairs.Goals as goal
+use Rattle.moka_buckets.proofs.bucket_table.as_table.BucketTableTable.pairs.Goals as goal
 
 pub returns : goal.returns
 returns g c =
