@@ -1,12 +1,11 @@
 -- A ticket is drawn, and all stays good.
-use Rattle.std.proofs.Common.{◌≡◌, ℕ, ◌^◌, ◌<◌, ◌≤◌, ◌==◌, Bool, true, false, cond, List, [], ◌∷◌, ◌++◌, length, Option, Some, None, zero, suc, inl, inr, refl, sym, ap, subst, ◌∙◌, arith}
+use Rattle.std.proofs.Common.{◌≡◌, ℕ, ◌^◌, ◌≤◌, Bool, false, cond, List, [], ◌∷◌, Option, Some, suc, inl, inr, refl, sym, ap, subst, ◌∙◌, arith}
 use Rattle.std.proofs.lemmas.Bool.Decides.{eqb_tells}
 use Rattle.std.specs.Cmp.{IsEquivalence}
 use Rattle.std.specs.List.{slice_get}
 use Rattle.moka_words.specs.Words.{node_of, word_at}
 use Rattle.moka_growth.specs.Maps.{IsElsewhere}
 use Rattle.moka_pairs.specs.Keys.{Agrees, Respects}
-use Rattle.moka_history.specs.declared.note.Note.{Note}
 use Rattle.moka_history.specs.declared.note.Note.TheVariants.{Announced}
 use Rattle.moka_history.specs.Entries.{Entry}
 use Rattle.moka_history.specs.States.{Door, Bucket, Ticket, State, IsPlaced, after, memory_of, words_in}

@@ -1,5 +1,5 @@
 -- A word is exchanged by a call, and all stays good.
-use Rattle.std.proofs.Common.{◌≡◌, ◌≢◌, ◌⊎◌, ℕ, ◌+◌, ◌<◌, ◌≤◌, ◌==◌, Bool, true, false, cond, List, [], ◌∷◌, ◌++◌, map, length, set, slice_index_or, Option, Some, None, zero, suc, inl, inr, refl, sym, ap, subst, ◌∙◌, arith}
+use Rattle.std.proofs.Common.{◌≡◌, ◌≢◌, ◌⊎◌, ℕ, ◌+◌, ◌<◌, ◌≤◌, ◌==◌, Bool, true, false, cond, List, [], ◌∷◌, ◌++◌, map, length, set, Option, Some, None, zero, suc, inl, inr, refl, sym, ap, subst, ◌∙◌, arith}
 use Rattle.std.proofs.lemmas.Bool.{eqb-true, false≢true}
 use Rattle.std.proofs.lemmas.Bool.Decides.{eqb_tells}
 use Rattle.std.proofs.lemmas.List.{get_or-set_other, length-map}
@@ -9,25 +9,23 @@ use Rattle.std.specs.Option.{is_some, option_map, option_map_or}
 use Rattle.moka_hist.specs.Finite.{put_key, times}
 use Rattle.moka_words.specs.declared.words.Word.{Word}
 use Rattle.moka_words.specs.declared.words.Word.TheVariants.{Empty, Live, Tomb}
-use Rattle.moka_words.specs.declared.accesses.Access.{Access}
 use Rattle.moka_words.specs.declared.accesses.Seen.{Seen}
 use Rattle.moka_words.specs.declared.accesses.Seen.TheVariants as seen
 use Rattle.moka_words.specs.Words.{node_of, stored_in, word_at}
 use Rattle.moka_words.specs.Arrays.{bucket_at}
 use Rattle.moka_words.specs.Effect.{Memory, Effect, SetsWord}
-use Rattle.moka_growth.specs.Calls.{Call, Change, Changed as ends_changed, access_of, next_at, wanted}
-use Rattle.moka_growth.specs.Fits.{FitsAt, HasBeenRoot, IsProbing, IsChange}
+use Rattle.moka_growth.specs.Calls.{Call, Changed as ends_changed, access_of, next_at, wanted}
+use Rattle.moka_growth.specs.Fits.{FitsAt, IsProbing, IsChange}
 use Rattle.moka_growth.specs.Maps.{Finds, ChangesMap, IsElsewhere, stores}
 use Rattle.moka_growth.proofs.Exchanging.{bucket_within, change_node, change_own}
-use Rattle.moka_pairs.specs.Keys.{Agrees, Respects, hash_by, own_by, own_for}
+use Rattle.moka_pairs.specs.Keys.{Respects, hash_by, own_by, own_for}
 use Rattle.moka_pairs.specs.Pairs.{pair_at}
 use Rattle.moka_pairs.specs.Segments.{SoundAll, LaterAll, EffectAll, Sees}
 use Rattle.moka_pairs.proofs.Names.{agrees_now, hashed_by}
 use Rattle.moka_pairs.proofs.Divided.{segment_are}
 use Rattle.moka_pairs.proofs.Steps.{ends_after, later_after, sound_after}
-use Rattle.moka_history.specs.declared.note.Note.{Note}
 use Rattle.moka_history.specs.declared.note.Note.TheVariants.{Changed}
-use Rattle.moka_history.specs.Entries.{Entry, IsLegal, map_after, pair_put}
+use Rattle.moka_history.specs.Entries.{Entry, map_after, pair_put}
 use Rattle.moka_history.specs.States.{Owner, Door, Bucket, Ticket, State, IsPlaced, after, key_at, memory_of, spent, word_in, words_in}
 use Rattle.moka_history.specs.Logs.{entry_of, entry_with}
 use Rattle.moka_history.specs.Cells.{cell_of, number_of}
@@ -46,7 +44,7 @@ not_ticket : {w : Word} {n : ℕ} {b : Bool} → Ticket n b ≡ Bucket w → ⊥
 not_ticket e = absurd (cc (e))
 
 -- the array that a segment's only place has
-only_array : (x p a : ℕ) → slice_get (x ∷ []) p ≡ Some a → a ≡ x
+pub only_array : (x p a : ℕ) → slice_get (x ∷ []) p ≡ Some a → a ≡ x
 only_array x zero a e = sym (one_item e)
 only_array x (suc p) a e = absurd (no_item e)
 
@@ -102,7 +100,7 @@ module _ {K V : Type 0} (S : Type 0) (eq : K → K → Bool) (laws : IsEquivalen
 
   -- what the call knows of the bucket
   pub fits : IsProbing (own_by eq known key) c.hash old array size passed × IsChange (own_by eq known key) from to
-  fits = subst (λ p. FitsAt (hash_by hash known) (own_for eq known (Some key)) c.hash old p) x.comes (x.fits known (agrees_now known))
+  fits = subst (λ p. FitsAt (hash_by hash known) (own_for eq known (Some key)) c.hash old p) x.call.comes (x.call.fits known (agrees_now known))
 
   pub is_root : array ≡ suc here
   is_root = let rooted = fits.0.rooted in only_array (suc here) rooted.place array rooted.there
@@ -119,23 +117,23 @@ module _ {K V : Type 0} (S : Type 0) (eq : K → K → Bool) (laws : IsEquivalen
 
   -- its own segment
   pub effect : EffectAll eq hash known (Some key) (access_of c) saw old new
-  effect keys agrees = subst (λ a. Effect (hash_by hash keys) (own_for eq keys (Some key)) a saw old new) (sym (ap (wanted c.hash) x.comes))
+  effect keys agrees = subst (λ a. Effect (hash_by hash keys) (own_for eq keys (Some key)) a saw old new) (sym (ap (wanted c.hash) x.call.comes))
       (x.found, (sets here).0)
 
   pub sees : Sees eq hash known (Some key) c saw old new
-  sees = record { hashed = hashed_by hash key c x.hashed; fits = x.fits; effect = effect; choice = λ keys agrees. tt }
+  sees = record { hashed = hashed_by hash key c x.call.hashed; fits = x.call.fits; effect = effect; choice = λ keys agrees. tt }
 
   pub sound_here : SoundAll eq hash known new
-  sound_here = sound_after eq laws hash respects known (Some key) c saw old new (good.sound here x.within) sees
+  sound_here = sound_after eq laws hash respects known (Some key) c saw old new (good.sound here x.call.within) sees
 
   pub later_here : LaterAll eq known old new
-  later_here = later_after eq laws hash respects known (Some key) c saw old new (good.sound here x.within) sees
+  later_here = later_after eq laws hash respects known (Some key) c saw old new (good.sound here x.call.within) sees
 
   pub ends : Finds (own_by eq known key) old (stored_in from) × ChangesMap (own_by eq known key) (stored_in from) (stored_in to) old new
   ends =
-      let e = ends_after eq laws hash respects known (Some key) c saw old new (good.sound here x.within) sees (ends_changed (stored_in from))
-      (ap (λ p. next_at c p saw) x.comes) in
-      (e.0, subst (λ p. ChangesMap (own_by eq known key) (stored_in from) (stores p) old new) x.comes e.1)
+      let e = ends_after eq laws hash respects known (Some key) c saw old new (good.sound here x.call.within) sees (ends_changed (stored_in from))
+      (ap (λ p. next_at c p saw) x.call.comes) in
+      (e.0, subst (λ p. ChangesMap (own_by eq known key) (stored_in from) (stores p) old new) x.call.comes e.1)
 
   -- the node of the new word, and its key
   pub node : (n : ℕ) × (node_of to ≡ Some n)
@@ -158,7 +156,7 @@ module _ {K V : Type 0} (S : Type 0) (eq : K → K → Bool) (laws : IsEquivalen
 
   change : (entry.former ≡ pair_in eq place s here own_key)
       × ((q : K) → pair_in eq place changed_state here q ≡ put_key eq (pair_in eq place s here) own_key (pair_put entry) q)
-  change = change_is eq laws hash respects known s.pairs (segment_are (λ k. place k == here) s.pairs) old new (good.sound here x.within) sound_here ticket
+  change = change_is eq laws hash respects known s.pairs (segment_are (λ k. place k == here) s.pairs) old new (good.sound here x.call.within) sound_here ticket
       from to node.0 own_key node.1 named.1 (subst (λ f. Finds f old (stored_in from)) own_is ends.0)
       (subst (λ f. ChangesMap f (stored_in from) (stored_in to) old new) own_is ends.1)
 
@@ -205,7 +203,7 @@ module _ {K V : Type 0} (S : Type 0) (eq : K → K → Bool) (laws : IsEquivalen
 
   pub former_is : entry.former ≡ map_after eq es own_key
   former_is = change.0 ∙ (ap (λ i. pair_in eq place s i own_key) in_place
-      ∙ sym (good.map_is own_key (subst (λ i. i < s.segments) in_place x.within)))
+      ∙ sym (good.map_is own_key (subst (λ i. i < s.segments) in_place x.call.within)))
 
   map_here : (q : K) → place q ≡ here → place q < s.segments → put_key eq (map_after eq es) own_key (pair_put entry) q ≡ pair_in eq place changed_state (place q) q
   map_here q is below =
@@ -243,7 +241,7 @@ module _ {K V : Type 0} (S : Type 0) (eq : K → K → Bool) (laws : IsEquivalen
   put_here : (j n : ℕ) (p : K × V) → j ≡ here → node_of to ≡ Some n → s.pairs n ≡ Some p → WasPut eq longer p.0
   put_here j n p is names at = elim (change_stores (own_by eq known key) from to fits.1 n names) [
     | inl stored ↦ put_now n p names at stored
-    | inr had ↦ put_before p.0 (good.puts here index n p x.within
+    | inr had ↦ put_before p.0 (good.puts here index n p x.call.within
         (ap (λ a. node_of (word_at (words_in s a) index)) (sym is_root) ∙ (ap node_of x.found ∙ had)) at)
   ]
 

@@ -8,7 +8,6 @@ use Rattle.std.specs.Option.{option_map}
 use mathlib.Core.List.{IsPrefix}
 use Rattle.logbook.specs.Pages.{Cell, cell}
 use Rattle.moka_hist.specs.Finite.{times}
-use Rattle.moka_words.specs.declared.words.Word.{Word}
 use Rattle.moka_words.specs.declared.words.Word.TheVariants.{Empty}
 use Rattle.moka_words.specs.Words.{node_of, word_at}
 use Rattle.moka_words.specs.Effect.{Memory}
@@ -29,7 +28,7 @@ use Rattle.moka_history.specs.Entries.{Entry, map_after}
 use Rattle.moka_history.specs.States.{Door, Bucket, Ticket, State, first_keys, memory_of, word_in, word_of, words_in}
 use Rattle.moka_history.specs.Logs.{entries_of, state_of}
 use Rattle.moka_history.specs.Cells.{cell_of, cells_of, drawn, number_of}
-use Rattle.moka_history.specs.Rules.{made_on, keys_of, IsGood, Lasts, IsOpenedFor, IsFront, IsKept, Holds}
+use Rattle.moka_history.specs.Rules.{made_on, keys_of, IsGood, Lasts, IsOpenedFor, IsFront, IsKept}
 use Rattle.moka_history.specs.Keeping.{ArePut, IsDivided}
 use Rattle.moka_history.proofs.Beginning.{words_are}
 use Rattle.moka_history.proofs.Folds.{entries_begin, entries_grow}

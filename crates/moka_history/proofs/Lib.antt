@@ -12,3 +12,4 @@ pub mod Exchanged
 pub mod Opening
 pub mod Fronts
 pub mod Stepping
+pub mod Plays

@@ -1,8 +1,7 @@
 -- Words by their numbers.
-use Rattle.std.proofs.Common.{◌≡◌, ℕ, ◌+◌, ◌*◌, ◌^◌, ◌≤◌, zero, suc, Some, refl, ap, sym, ◌∙◌, arith}
+use Rattle.std.proofs.Common.{◌≡◌, ℕ, ◌+◌, ◌*◌, ◌^◌, ◌≤◌, zero, suc, refl, ap, sym, ◌∙◌, arith}
 use Rattle.moka_words.specs.declared.words.Word.{Word}
 use Rattle.moka_words.specs.declared.words.Word.TheVariants.{Unset, Empty, Live, Tomb, SealedEmpty, SealedLive, SealedTomb}
-use Rattle.moka_words.specs.Words.{node_of}
 use Rattle.moka_history.specs.Cells.{number_of}
 use Rattle.moka_history.specs.Keeping.{IsSmall}
 

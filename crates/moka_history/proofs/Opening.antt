@@ -1,9 +1,8 @@
 -- The book of a table that was just opened keeps the rule.
-use Rattle.std.proofs.Common.{◌≡◌, ℕ, ◌+◌, ◌-◌, ◌*◌, ◌^◌, ◌<◌, ◌≤◌, Bool, true, false, List, [], ◌∷◌, ◌++◌, map, length, replicate, Option, Some, None, zero, suc, inl, inr, refl, sym, ap, subst, ◌∙◌, arith, length-append}
+use Rattle.std.proofs.Common.{◌≡◌, ℕ, ◌-◌, ◌*◌, ◌^◌, ◌<◌, ◌≤◌, Bool, true, List, [], ◌∷◌, map, length, replicate, Option, Some, None, zero, suc, inl, inr, refl, sym, ap, subst, ◌∙◌, arith, length-append}
 use Rattle.std.specs.Int.{IsPowerOfTwo}
 use Rattle.std.specs.List.{slice_get, find}
 use mathlib.Core.List.{IsPrefix}
-use Rattle.logbook.specs.Pages.{Cell}
 use Rattle.moka_words.specs.declared.words.Word.{Word}
 use Rattle.moka_words.specs.declared.words.Word.TheVariants.{Empty}
 use Rattle.moka_words.specs.Words.{node_of, word_at}
@@ -14,8 +13,8 @@ use Rattle.moka_history.specs.declared.note.Note.{Note}
 use Rattle.moka_history.specs.declared.note.Note.TheVariants.{Opened}
 use Rattle.moka_history.specs.States.{Owner, Door, Bucket, Ticket, State, memory_of, words_in}
 use Rattle.moka_history.specs.Logs.{entries_of, state_of}
-use Rattle.moka_history.specs.Cells.{cell_of, cells_of}
-use Rattle.moka_history.specs.Rules.{keys_of, pair_in, IsOwned, IsDrawn, IsGood, Lasts, IsFront, IsKept, Holds}
+use Rattle.moka_history.specs.Cells.{cell_of}
+use Rattle.moka_history.specs.Rules.{keys_of, IsOwned, IsDrawn, IsGood, Lasts, IsFront, IsKept, Holds}
 use Rattle.moka_history.specs.Keeping.{IsDivided}
 use Rattle.moka_history.proofs.Beginning.{first_at, opened_is, placed, words_are}
 use Rattle.moka_history.proofs.Lists.{no_item, one_item, prefix_more, prefix_through}

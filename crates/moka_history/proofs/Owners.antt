@@ -1,5 +1,5 @@
 -- What notes make of the owners of cells.
-use Rattle.std.proofs.Common.{◌≡◌, ◌≢◌, ◌⊎◌, ℕ, ◌<◌, ◌==◌, Bool, true, false, cond, List, [], ◌∷◌, ◌++◌, map, length, set, Option, Some, None, zero, suc, inl, inr, refl, sym, ap, subst, ◌∙◌, arith}
+use Rattle.std.proofs.Common.{◌≡◌, ◌≢◌, ◌⊎◌, ℕ, ◌<◌, ◌==◌, Bool, true, false, cond, List, [], ◌∷◌, map, length, set, Some, zero, suc, inl, inr, refl, sym, ap, ◌∙◌, arith}
 use Rattle.std.proofs.lemmas.Bool.{eq-eqb}
 use Rattle.std.proofs.lemmas.Bool.Decides.{eqb_tells}
 use Rattle.std.specs.List.{slice_get}
@@ -8,7 +8,7 @@ use Rattle.logbook.specs.Pages.{Cell, cell}
 use Rattle.moka_words.specs.declared.words.Word.{Word}
 use Rattle.moka_history.specs.States.{Owner, Door, Bucket, Ticket, spent}
 use Rattle.moka_history.specs.Cells.{number_of, cell_of}
-use Rattle.moka_history.proofs.Lists.{no_item, one_item, get_below, set_get, other_get, unmap_get, map_get, map_set}
+use Rattle.moka_history.proofs.Lists.{no_item, one_item, set_get, other_get, unmap_get, map_get, map_set}
 
 -- a word that is left as it is
 pub set_same : (cells : List Cell) (k : ℕ) → (cell cells k).1 ≡ true → set cells k ((cell cells k).0, true) ≡ cells

@@ -1,9 +1,8 @@
 -- Segments whose words a step leaves, and what lasts through steps.
-use Rattle.std.proofs.Common.{◌≡◌, ℕ, ◌<◌, ◌==◌, Bool, List, [], ◌∷◌, ◌++◌, length, Option, Some, inl, inr, refl, sym, ap, subst, ◌∙◌, arith}
+use Rattle.std.proofs.Common.{◌≡◌, ℕ, ◌<◌, ◌==◌, Bool, List, [], ◌∷◌, ◌++◌, length, Option, inl, inr, refl, sym, ap, subst, ◌∙◌, arith}
 use Rattle.std.specs.Cmp.{IsEquivalence}
-use Rattle.std.specs.List.{slice_get}
 use mathlib.Core.List.{IsPrefix}
-use Rattle.moka_words.specs.Effect.{Memory, LaterMemory}
+use Rattle.moka_words.specs.Effect.{LaterMemory}
 use Rattle.moka_growth.specs.Sound.{IsSound}
 use Rattle.moka_growth.specs.Maps.{KeepsMap, IsElsewhere}
 use Rattle.moka_growth.proofs.Elsewhere.{elsewhere_keeps_sound}

@@ -1,5 +1,5 @@
 -- Whole steps keep the rule.
-use Rattle.std.proofs.Common.{◌≡◌, ℕ, ◌-◌, ◌^◌, ◌<◌, ◌≤◌, Bool, true, false, List, [], ◌∷◌, ◌++◌, map, length, set, Option, Some, suc, refl, sym, ap, subst, ◌∙◌, arith, length-append}
+use Rattle.std.proofs.Common.{◌≡◌, ℕ, ◌-◌, ◌^◌, ◌≤◌, Bool, true, false, List, [], ◌∷◌, ◌++◌, map, length, set, Option, Some, suc, refl, sym, ap, subst, ◌∙◌, arith, length-append}
 use Rattle.std.proofs.lemmas.List.{append-nil, length-map}
 use Rattle.std.specs.List.{slice_get}
 use Rattle.std.specs.Option.{option_map, option_to_list}
@@ -12,7 +12,7 @@ use Rattle.moka_pairs.specs.Pairs.{pair_at}
 use Rattle.moka_history.specs.declared.note.Note.{Note}
 use Rattle.moka_history.specs.declared.note.Note.TheVariants.{Announced, Changed}
 use Rattle.moka_history.specs.Entries.{Entry}
-use Rattle.moka_history.specs.States.{Door, Ticket, State, after, key_at, unopened, words_in}
+use Rattle.moka_history.specs.States.{Ticket, State, after, key_at, unopened, words_in}
 use Rattle.moka_history.specs.Logs.{entries_of, entry_with, state_of}
 use Rattle.moka_history.specs.Cells.{cell_of, cells_of, drawn, number_of}
 use Rattle.moka_history.specs.Rules.{IsGood, Lasts, IsKept, Holds}

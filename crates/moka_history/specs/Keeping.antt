@@ -106,14 +106,18 @@ AnnouncingKeeps K V S =
     × (slice_get (state_of (log ++ Announced ticket pair ∷ [])).cells (length cells)
     ≡ Some (Ticket ticket false))
 
--- A call of a key, which fits after this state, comes to the exchange of a word that is still the one
--- that it found.
-pub record Exchanges {K V : Type 0} (eq : K → K → Bool) (hash place : K → ℕ) (s : State K V)
-    (key : K) (c : Call) (array size passed : ℕ) (from to : Word) : Type 0 where
+-- a call of a key, which fits after this state, comes to the exchange of a word
+pub record Comes {K V : Type 0} (eq : K → K → Bool) (hash place : K → ℕ) (s : State K V) (key : K)
+    (c : Call) (array size passed : ℕ) (from to : Word) : Type 0 where
   pub within : place key < s.segments
   pub hashed : c.hash ≡ hash key
   pub fits : FitsAll eq hash (keys_of place s (place key)) (Some key) (memory_of s (place key)) c
   pub comes : c.point ≡ Change array size passed from to
+
+-- and the word is still the one that it found
+pub record Exchanges {K V : Type 0} (eq : K → K → Bool) (hash place : K → ℕ) (s : State K V)
+    (key : K) (c : Call) (array size passed : ℕ) (from to : Word) : Type 0 where
+  pub call : Comes eq hash place s key c array size passed from to
   pub found : word_at (words_in s array) (bucket_at size c.hash passed) ≡ from
 
 -- The exchange of the word with a ticket, whose cell wasn't home, keeps the rule: the word stands in

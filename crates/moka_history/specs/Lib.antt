@@ -5,3 +5,4 @@ pub mod Cells
 pub mod Rules
 pub mod Laws
 pub mod Keeping
+pub mod Moving

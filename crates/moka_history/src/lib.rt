@@ -2,14 +2,15 @@
 //! then.
 //!
 //! All callers write one log, of `Note`s. The definitions stand in `specs/`: what a change says of
-//! the map (`Entries`), what the cells of the book hold after some notes (`States`), and what a
-//! whole log gives (`Logs`). Each law is the contract of a function that does nothing. To call it
+//! the map (`Entries`), what the cells of the book hold after some notes (`States`), what a whole
+//! log gives (`Logs`), and the rule of the book (`Rules`). Each law is the contract of a function that does nothing. To call it
 //! is to cite the law.
 #![tactic(auto)]
 
 mod changing;
 mod keeping;
 mod lasting;
+mod moving;
 mod note;
 mod recording;
 mod telling;
@@ -23,6 +24,7 @@ pub use lasting::{
     calls_still_fit, found_is_history, front_is_kept, front_lasts, full_array_was_put,
     tickets_are_spent_once, words_change_by_entries, words_name_pairs,
 };
+pub use moving::{announcing_moves, changing_moves, look_moves};
 pub use note::Note;
 pub use recording::{change_is_maps, legal_goes_on, legal_was_legal, map_goes_on};
 pub use telling::{entries_go_on, state_goes_on};

@@ -1,0 +1,109 @@
+-- What each step of a book tells its caller, and that each can be made whatever the book is.
+use Rattle.std.specs.Prelude.{◌≡◌, ◌⊎◌, ℕ, ◌+◌, ◌^◌, ◌==◌, ◌<◌, ◌≤◌, Bool, true, false, List, [], ◌∷◌, ◌++◌, length, Option, Some, None, MatchBool}
+use Rattle.std.specs.List.{slice_get}
+use mathlib.Core.List.{IsPrefix}
+use prog.Atomic.{either}
+use Rattle.logbook.specs.Pages.{Moves, Step, View, cell, may_make, may_write, nib, no_nib, step}
+use Rattle.moka_words.specs.declared.words.Word.{Word}
+use Rattle.moka_words.specs.Arrays.{bucket_at}
+use Rattle.moka_growth.specs.Calls.{Call}
+use Rattle.moka_history.specs.declared.note.Note.{Note}
+use Rattle.moka_history.specs.declared.note.Note.TheVariants.{Announced, Changed}
+use Rattle.moka_history.specs.Entries.{Entry}
+use Rattle.moka_history.specs.States.{Ticket, State}
+use Rattle.moka_history.specs.Logs.{entries_of, entry_of, state_of}
+use Rattle.moka_history.specs.Cells.{cells_of, number_of}
+use Rattle.moka_history.specs.Rules.{IsOpenedFor, IsKept, Holds}
+use Rattle.moka_history.specs.Keeping.{Comes, IsDivided, IsSmall}
+
+-- callers trade nothing
+abbrev pub shown : {E : Type 0} → List E → List E
+shown log = []
+
+abbrev pub moved : {E : Type 0} → List E → List E → ℕ → Type 0
+moved before after answer = Unit {0}
+
+module _ {K V S : Type 0} where
+  -- the cell is the ticket's that the note draws
+  abbrev pub HasTicket : (own : ℕ) → Note K V S → State K V → Type 0
+  HasTicket own (Announced ticket pair) s = slice_get s.cells own ≡ Some (Ticket ticket false)
+  HasTicket own note s = Unit {0}
+
+  -- the cell holds the number after this log
+  abbrev pub HoldsThere : (key number : ℕ) → List (Note K V S) → Type 0
+  HoldsThere key number log = cell (cells_of (state_of log)) key ≡ (number, true)
+
+module _ {K V S : Type 0} (eq : K → K → Bool) (hash : S → K → ℕ) (place : S → ℕ → K → ℕ) where
+  -- the log so far was seen, in which the word holds what was found; the pen is left
+  abbrev pub Looks : Step (Note K V S) → View (Note K V S) ℕ → ℕ → View (Note K V S) ℕ → Type 0
+  Looks s v found w = IsKept eq hash place w.0 × HoldsThere s.key found w.0 × (w.1.0 ≡ v.1.0)
+
+  -- the note was added to a log that goes on from what had been seen
+  pub record Added (s : Step (Note K V S)) (v : View (Note K V S) ℕ) (found : ℕ)
+      (w : View (Note K V S) ℕ) : Type 0 where
+    pub log : List (Note K V S)
+    pub begins : IsPrefix v.0 log
+    pub was_kept : IsKept eq hash place log
+    pub there : HoldsThere s.key found log
+    pub more : w.0 ≡ log ++ s.ask ∷ []
+    pub kept : IsKept eq hash place w.0
+
+  -- the ticket was drawn, and the pen makes its cell; or another one was drawn meanwhile
+  abbrev pub Announces : Step (Note K V S) → View (Note K V S) ℕ → ℕ → View (Note K V S) ℕ →
+      Type 0
+  Announces s v found w = MatchBool (found == s.old)
+      (Added s v found w × (w.1.0.right ≡ may_make) × HasTicket w.1.0.key s.ask (state_of w.0))
+      (Looks s v found w)
+
+  -- the word was exchanged, and its entry added; or it is another one by now
+  abbrev pub Changes : Step (Note K V S) → View (Note K V S) ℕ → ℕ → View (Note K V S) ℕ →
+      Type 0
+  Changes s v found w = MatchBool (found == s.old)
+      ((added : Added s v found w) × (e : Entry K V)
+      × (entry_of (state_of added.log) s.ask ≡ Some e)
+      × (entries_of w.0 ≡ entries_of added.log ++ e ∷ []))
+      (Looks s v found w)
+
+-- the door, or a place that an array has after this log
+abbrev pub IsPlace : {K V S : Type 0} → (key : ℕ) → List (Note K V S) → Type 0
+IsPlace key log = (key ≡ 0)
+    ⊎ ((array : ℕ) × (index : ℕ) × (slice_get ((state_of log).arrays array) index ≡ Some key))
+
+-- a load of a word, by who has seen a front
+abbrev pub LookMoves : (K V S : Type 0) → Type 0
+LookMoves K V S =
+    (eq : K → K → Bool) (hash : S → K → ℕ) (place : S → ℕ → K → ℕ) →
+    (front : List (Note K V S)) (key : ℕ) (ask : Note K V S) → 0 < length front →
+    IsPlace key front →
+    Moves (Holds eq hash place) shown moved key (front, (no_nib, None)) (λ n. n)
+    (Looks eq hash place (step key 0 0 ask) (front, (no_nib, None)))
+
+-- An exchange of the door for one more, by who has read it: it draws the next ticket.
+abbrev pub AnnouncingMoves : (K V S : Type 0) → Type 0
+AnnouncingMoves K V S =
+    (eq : K → K → Bool) (hash : S → K → ℕ) (place : S → ℕ → K → ℕ) → IsDivided eq hash place →
+    (front : List (Note K V S)) (drawn ticket : ℕ) (pair : Option (K × V)) → 0 < length front →
+    ticket ≡ (state_of front).segments + (drawn + 1) → ticket ≤ 2 ^ 60 →
+    Moves (Holds eq hash place) shown moved 0 (front, (no_nib, None))
+    (λ n. either (n == drawn) (drawn + 1) n)
+    (Announces eq hash place (step 0 drawn (drawn + 1) (Announced ticket pair))
+    (front, (no_nib, None)))
+
+-- An exchange of a bucket by a call that fits after a front, with a ticket whose cell the pen writes.
+abbrev pub ChangingMoves : (K V S : Type 0) → Type 0
+ChangingMoves K V S =
+    (eq : K → K → Bool) (hash : S → K → ℕ) (place : S → ℕ → K → ℕ) → IsDivided eq hash place →
+    (segments size : ℕ) (hasher : S) (front : List (Note K V S)) →
+    IsOpenedFor segments size hasher front →
+    (key : K) (c : Call) (array length_is passed : ℕ) (from to : Word) →
+    Comes eq (hash hasher) (place hasher segments) (state_of front) key c array length_is passed
+    from to →
+    IsSmall from → (bucket own ticket : ℕ) (home : Bool) →
+    let index : ℕ = bucket_at length_is c.hash passed in
+    slice_get ((state_of front).arrays array) index ≡ Some bucket →
+    slice_get (state_of front).cells own ≡ Some (Ticket ticket home) →
+    Moves (Holds eq hash place) shown moved bucket (front, (nib may_write own 0, None))
+    (λ n. either (n == number_of from) (number_of to) n)
+    (Changes eq hash place
+    (step bucket (number_of from) (number_of to) (Changed ticket array index to))
+    (front, (nib may_write own 0, None)))

@@ -1,0 +1,21 @@
+//! Laws of steps over the words of a book: each can be made, whatever the book is by then.
+
+ghost use Rattle.moka_history.specs.Moving.{AnnouncingMoves, ChangingMoves, LookMoves};
+
+/// A load of a word leaves the book. Its caller has seen the log so far, in which the word is the one
+/// that it read.
+pub fn look_moves<K, V, S>()
+    ensures moves { LookMoves K V S }
+{}
+
+/// An exchange of the door for one more draws the next ticket, and names its pair; or it leaves the
+/// book, where another ticket was drawn meanwhile.
+pub fn announcing_moves<K, V, S>()
+    ensures moves { AnnouncingMoves K V S }
+{}
+
+/// An exchange of a bucket by a call that fitted makes its change, and spends its ticket; or it
+/// leaves the book, where the word is another one by now.
+pub fn changing_moves<K, V, S>()
+    ensures moves { ChangingMoves K V S }
+{}
