@@ -6,8 +6,8 @@ use Rattle.std.specs.Map.{lookup, lookup_entry, set_value}
 use Rattle.std.specs.Cmp.{IsEquivalence}
 use denote.Ref.{Bor}
 use Rattle.moka_parts.specs.declared.held.Held.{Held}
-use Rattle.moka_parts.specs.Pairs.{pair_of, pair_in, lent}
-use Rattle.moka_parts.proofs.Entries.{entry_there, lookup_set}
+use Rattle.moka_parts.specs.Pairs.{pair_of, pair_in, lent, SamePairs, PutsAt, MeetsFact}
+use Rattle.moka_parts.proofs.Entries.{lookup_set}
 
 -- a choice, seen through a function
 pub mapped : {A B : Type 0} (f : A → B) (b : Bool) (x y : Option A) → option_map f (cond b x y) ≡ cond b (option_map f x) (option_map f y)
@@ -22,10 +22,13 @@ pub none_mapped : {A B : Type 0} (f : A → B) (o : Option A) → option_map f o
 none_mapped f None h = refl
 none_mapped f (Some x) h = absurd (cc)
 
--- what is put where something was taken out
-over : {A : Type 0} (b : Bool) (x first middle last : Option A) → middle ≡ cond b None first → last ≡ cond b x middle → last ≡ cond b x first
-over true x first middle last m l = l
-over false x first middle last m l = l ∙ m
+-- where no value is found there is no pair
+pub no_pair : {K V : Type 0} (test : K → Bool) (es : List (K × Held K V)) → lookup test es ≡ None → option_map pair_of (lookup_entry test es) ≡ None
+no_pair test [] h = refl
+no_pair {K} {V} test (e ∷ es) h =
+    let by : (b : Bool) → cond b (Some e.1) (lookup test es) ≡ None → option_map pair_of (cond b (Some e) (lookup_entry test es)) ≡ None =
+    elim [ true ↦ (λ f. absurd (cc)) | false ↦ (λ f. no_pair test es f) ] in
+    by (test e.0) h
 
 -- a value is found with its key
 pub value_entry : {K X : Type 0} (test : K → Bool) (es : List (K × X)) (v : X) → lookup test es ≡ Some v → (k : K) × (lookup_entry test es ≡ Some (k, v))
@@ -76,36 +79,6 @@ module _ {K V : Type 0} {eq : K → K → Bool} (o : IsEquivalence eq) where
       ] in
       ap (option_map pair_of) (set ∙ by (eq key q) refl)
 
-  -- the pairs once the entry of the key was taken out, and one was put under its own key
-  pub put_over : (key q : K) (es ms fs : List (K × Held K V)) (e : K × Held K V) (w : Held K V) → lookup_entry (eq key) es ≡ Some e
-      → ((q : K) → lookup_entry (eq q) ms ≡ cond (eq key q) None (lookup_entry (eq q) es))
-      → ((q : K) → lookup_entry (eq q) fs ≡ cond (eq e.0 q) (Some (e.0, w)) (lookup_entry (eq q) ms))
-      → pair_in eq fs q ≡ cond (eq key q) (Some (pair_of (e.0, w))) (pair_in eq es q)
-  put_over key q es ms fs e w found out put =
-      let t = (entry_there o key es e found).1 in
-      let put' : lookup_entry (eq q) fs ≡ cond (eq key q) (Some (e.0, w)) (lookup_entry (eq q) ms) = put q ∙ ap (λ (b : Bool). cond b (Some (e.0, w)) (lookup_entry (eq q) ms)) (sym (o.congr key e.0 q t)) in
-      let whole = over (eq key q) (Some (e.0, w)) (lookup_entry (eq q) es) (lookup_entry (eq q) ms) (lookup_entry (eq q) fs) (out q) put' in
-      ap (option_map pair_of) whole ∙ mapped pair_of (eq key q) (Some (e.0, w)) (lookup_entry (eq q) es)
-
-  -- and where none stood at the key
-  pub put_first : (key q : K) (es ms fs : List (K × Held K V)) (w : Held K V)
-      → ((q : K) → lookup_entry (eq q) ms ≡ cond (eq key q) None (lookup_entry (eq q) es))
-      → ((q : K) → lookup_entry (eq q) fs ≡ cond (eq key q) (Some (key, w)) (lookup_entry (eq q) ms))
-      → pair_in eq fs q ≡ cond (eq key q) (Some (pair_of (key, w))) (pair_in eq es q)
-  put_first key q es ms fs w out put =
-      let whole = over (eq key q) (Some (key, w)) (lookup_entry (eq q) es) (lookup_entry (eq q) ms) (lookup_entry (eq q) fs) (out q) (put q) in
-      ap (option_map pair_of) whole ∙ mapped pair_of (eq key q) (Some (key, w)) (lookup_entry (eq q) es)
-
-  -- nothing stands at the key of an entry that was taken out
-  pub taken_key : (key : K) (es ms : List (K × Held K V)) (e : K × Held K V) → lookup_entry (eq key) es ≡ Some e
-      → ((q : K) → lookup_entry (eq q) ms ≡ cond (eq key q) None (lookup_entry (eq q) es)) → lookup_entry (eq e.0) ms ≡ None
-  taken_key key es ms e found out = out e.0 ∙ ap (λ (b : Bool). cond b None (lookup_entry (eq e.0) es)) (entry_there o key es e found).1
-
--- nothing stands at the key itself
-pub gone : {K X : Type 0} (eq : K → K → Bool) (refls : (k : K) → eq k k ≡ true) (key : K) (ms : List (K × X)) (first : Option (K × X)) → lookup_entry (eq key) ms ≡ cond (eq key key) None first
-    → lookup_entry (eq key) ms ≡ None
-gone eq refls key ms first out = out ∙ ap (λ (b : Bool). cond b None first) (refls key)
-
 -- what a closure may be lent, where it may be lent what meets the fact
 pub may_lend : {K V : Type 0} (so : V → Type 0) (shown : Option (Bor K × Bor V)) (found : Option (K × V)) → lent shown ≡ found → IfSome found (λ p. so p.1) → IfSome shown (λ p. so p.1.now)
 may_lend so None found same h = tt
@@ -116,3 +89,23 @@ pub may_call : {K V : Type 0} (so : V → Type 0) (pre : Bor K → Bor V → Typ
     → ((k : Bor K) (v : Bor V) → so v.now → pre k v) → IfSome shown (λ p. pre p.0 p.1)
 may_call so pre None found same h to = tt
 may_call so pre (Some p) found same h to = to p.0 p.1 (may_lend so (Some p) found same h)
+
+module _ {K V : Type 0} (eq : K → K → Bool) (holds : K → V → Type 0) where
+  -- a map with the same pairs meets the fact
+  pub meets_same : (es fs : List (K × Held K V)) → MeetsFact eq holds es → SamePairs eq es fs → MeetsFact eq holds fs
+  meets_same es fs meets same = λ q. subst (λ (o : Option (K × V)). IfSome o (λ p. holds q p.1)) (sym (same q)) (meets q)
+
+  -- and so does one into which a pair was put that meets it, or of which one was taken
+  pub meets_put : (key : K) (now : Option (K × V)) (es fs : List (K × Held K V)) → MeetsFact eq holds es → PutsAt eq key now es fs
+      → ((q : K) → eq key q ≡ true → IfSome now (λ p. holds q p.1)) → MeetsFact eq holds fs
+  meets_put key now es fs meets made owes = λ q.
+      let by : (b : Bool) → eq key q ≡ b → IfSome (cond b now (pair_in eq es q)) (λ p. holds q p.1) =
+      elim [ true ↦ (λ e. owes q e) | false ↦ (λ e. meets q) ] in
+      subst (λ (o : Option (K × V)). IfSome o (λ p. holds q p.1)) (sym (made q)) (by (eq key q) refl)
+
+  -- a key at which a pair stands has a value that meets it
+  pub stored_meets : (es : List (K × Held K V)) → MeetsFact eq holds es → (q : K) (listed : Bool) → listed ≡ is_some (pair_in eq es q) → listed ≡ true → (v : V) × holds q v
+  stored_meets es meets q listed is true_is =
+      let by : (o : Option (K × V)) → is_some o ≡ true → IfSome o (λ p. holds q p.1) → (v : V) × holds q v =
+      elim [ None ↦ (λ e h. absurd (cc)) | Some p ↦ (λ e h. (p.1, h)) ] in
+      by (pair_in eq es q) (sym is ∙ true_is) (meets q)

@@ -11,3 +11,4 @@ pub mod Holding
 pub mod Tickets
 pub mod Cells
 pub mod Making
+pub mod Refusing

@@ -18,7 +18,7 @@ use Rattle.moka_parts.proofs.Tickets.{are_spent_still, are_spent_more, unspent_a
 use Rattle.moka_parts.proofs.Cells.{set_here, set_other, set_same, set_home, more_same, none_past}
 use Rattle.moka_parts.proofs.Histories.{count_of-more, legal_more, part_stays, changes_in-prefix, changes_in-more, opened_more, opened_same}
 
-neq-eqb : (a b : ℕ) → a ≢ b → (a == b) ≡ false
+pub neq-eqb : (a b : ℕ) → a ≢ b → (a == b) ≡ false
 neq-eqb a b apart = elim (eqb_tells a b) [ inl p ↦ absurd (apart p.1) | inr p ↦ p.0 ]
 
 -- a number that is put in its own place
@@ -251,3 +251,7 @@ module _ {K V S : Type 0} (eq : K → K → Bool) (part : S → K → ℕ) where
 -- what an exchange tells whose word was found as it should be
 pub was_added : (A B : Type 0) (b : Bool) → b ≡ true → MatchBool b A B → A
 was_added A B = elim [ true ↦ (λ e h. h) | false ↦ (λ e h. absurd (true≢false (sym e))) ]
+
+-- and one whose word was found otherwise
+pub was_left : (A B : Type 0) (b : Bool) → b ≡ false → MatchBool b A B → B
+was_left A B = elim [ true ↦ (λ e h. absurd (true≢false e)) | false ↦ (λ e h. h) ]

@@ -9,8 +9,9 @@ ghost use Rattle.moka_parts.specs.Calls.{Judged, Shown, Stays};
 ghost use Rattle.moka_parts.specs.Hashing.{part_in};
 ghost use Rattle.moka_parts.specs.Pairs.{lent, pair_in, PutsAt, SamePairs};
 
+use crate::counted::Counted;
 use crate::held::Held;
-use crate::part::{copied, holds_of, refused};
+use crate::part::{answered, copied, holds_of, refused};
 use crate::placing::are_of;
 use crate::{Fact, pairs};
 use moka_values::Exact;
@@ -102,20 +103,16 @@ impl<K: Eq + Hash, V, S: BuildHasher, F: Fact<K, V>> Bare<K, V, S, F> {
         ensures err { OnErr result.0 (SamePairs K.eq self.old self.new) }
         ensures fact { IfOk result.0 (λ there. IfSome there (F.holds key)) }
     {
-        if let Some((_, there)) = pairs::find(&self.map, &key) {
-            return (
-                copied(there),
+        match copied(self.find(&key)) {
+            Ok(None) => answered(self.put(key, value, |_| ())),
+            found => (
+                found,
                 Some(Held {
                     newer: Some(key),
                     value,
                 }),
-            );
+            ),
         }
-        if pairs::make_room(&mut self.map).is_err() {
-            return refused(key, value);
-        }
-        pairs::put_first(&mut self.map, key, value);
-        (Ok(None), None)
     }
 
     /// Takes the pair at the key out, where the condition holds of it. The map's own key comes
@@ -163,9 +160,10 @@ impl<K: Eq + Hash, V, S: BuildHasher, F: Fact<K, V>> Bare<K, V, S, F> {
         }
         Ok(keys)
     }
+}
 
-    /// How many pairs there are.
-    pub(crate) fn len(&self) -> usize {
+impl<K: Eq + Hash, V, S: BuildHasher, F: Fact<K, V>> Counted for Bare<K, V, S, F> {
+    fn len(&self) -> usize {
         self.map.len()
     }
 }

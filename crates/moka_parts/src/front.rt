@@ -7,7 +7,7 @@ ghost use Rattle.moka_parts.specs.Hashing.{part_in};
 ghost use Rattle.moka_parts.specs.Logs.{Counts, IsLog, Stands, Grows};
 ghost use Rattle.moka_parts.specs.Rules.{word_of};
 ghost use Rattle.moka_parts.specs.Asks.{asked_change};
-ghost use Rattle.moka_parts.specs.Changes.{IsUnspent};
+ghost use Rattle.moka_parts.specs.Changes.{IsLegal, IsUnspent};
 ghost use Rattle.moka_parts.specs.Hands.{Makes, ticket};
 ghost use Rattle.moka_parts.specs.Logs.{changes_in};
 ghost use Rattle.moka_parts.specs.Pairs.{pair_at};
@@ -55,13 +55,19 @@ impl<K: Eq + Hash, V, S: BuildHasher, J: Naming> Front<K, V, S, J> {
 
     /// A copy.
     pub(crate) fn again(&self) -> Front<K, V, S, J>
-        ensures same { result ≡ self.now }
-        ensures log { IsLog K.eq result }
+        ensures { result ≡ self.now }
     {
         Front {
             seen: self.seen.again(),
             of: PhantomData,
         }
+    }
+
+    /// What was seen is a legal history.
+    pub(crate) fn is_legal(&self)
+        ensures { IsLegal K.eq (changes_in self.now) }
+    {
+        let _ = &self.seen;
     }
 
     /// Sees what either has seen.
@@ -77,7 +83,6 @@ impl<K: Eq + Hash, V, S: BuildHasher, J: Naming> Front<K, V, S, J> {
     pub(crate) fn look(&mut self, word: &Word<Note<K, V, S>, u64, Law>, number: usize) -> u64
         requires word { (word.now ≡ word_of J.book number) × (number < 64) }
         ensures grows { IsPrefix self.old self.new }
-        ensures log { IsLog K.eq self.new }
         ensures counts { (s : S) × Counts K.eq
             (part_in S.BuildHasher S.Hasher.Hasher K.hash_input) s number result self.new }
     {
@@ -102,7 +107,6 @@ impl<K: Eq + Hash, V, S: BuildHasher, J: Naming> Front<K, V, S, J> {
         ensures grows { IsPrefix self.old self.new }
         ensures start { IsPrefix start.now self.new }
         ensures front { IsPrefix front.now self.new }
-        ensures log { IsLog K.eq self.new }
         ensures counts { OnTrue result ((number ≡ asked) × ((s : S) × Counts K.eq
             (part_in S.BuildHasher S.Hasher.Hasher K.hash_input) s asked count self.new)) }
     {
@@ -123,7 +127,6 @@ impl<K: Eq + Hash, V, S: BuildHasher, J: Naming> Front<K, V, S, J> {
     ) -> (Word<Note<K, V, S>, u64, Law>, Pen)
         requires word { (word.now ≡ word_of J.book number) × (number < 65) }
         ensures grows { IsPrefix self.old self.new }
-        ensures log { IsLog K.eq self.new }
         ensures named { result.0.key ≡ result.1.nib.key }
         ensures ticket { (result.1.book ≡ J.book) × (result.1.nib.right ≡ may_write) }
         ensures unspent { IsUnspent result.1.nib.key (changes_in self.new) }
@@ -137,8 +140,8 @@ impl<K: Eq + Hash, V, S: BuildHasher, J: Naming> Front<K, V, S, J> {
     }
 
     /// Adds the change to a history that begins with what was seen, as one of the caller's own, whose
-    /// ticket it spends. Answers false where the part has another count of changes; then nothing is
-    /// added.
+    /// ticket it spends. Answers false where the part has another count of changes, or can't count
+    /// one more; then nothing is added.
     pub(crate) fn add(
         &mut self,
         word: &Word<Note<K, V, S>, u64, Law>,
@@ -148,12 +151,11 @@ impl<K: Eq + Hash, V, S: BuildHasher, J: Naming> Front<K, V, S, J> {
         own: &mut Own<K, V, S, J>,
     ) -> bool
         requires word { (word.now ≡ word_of J.book number) × (number < 64) }
-        requires room { count + 1 < 2 ^ 64 }
         requires stands { (s : S) × Stands K.eq
             (part_in S.BuildHasher S.Hasher.Hasher K.hash_input) s number count asked.now.key.now
             (pair_at K.eq asked.now.map.now asked.now.key.now) self.old }
-        ensures log { IsLog K.eq self.new }
         ensures grows { IsPrefix self.old self.new }
+        ensures room { OnTrue result (count + 1 < 2 ^ 64) }
         ensures added { OnTrue result (Grows K.eq
             (part_in S.BuildHasher S.Hasher.Hasher K.hash_input) number (count + 1)
             (asked_change K.eq (ticket own.old) (ticket own.new) asked.now) self.old self.new) }
@@ -163,6 +165,9 @@ impl<K: Eq + Hash, V, S: BuildHasher, J: Naming> Front<K, V, S, J> {
         ensures rests { OnFalse result (own.new ≡ own.old) }
     {
         self.learn(&own.last);
+        if count == u64::MAX {
+            return false;
+        }
         let (_, next) = self.draw(word, number);
         let mut offer: Offer<Note<K, V, S>, u64, Law, Nothing> = self
             .seen

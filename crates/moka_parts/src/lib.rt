@@ -5,6 +5,7 @@ mod asked;
 mod bare;
 mod book;
 mod change;
+mod counted;
 mod fact;
 mod front;
 mod held;

@@ -7,6 +7,7 @@ ghost use Rattle.moka_parts.specs.Hands.{made};
 ghost use Rattle.moka_parts.specs.Tables.{history, own, Adds, Rests};
 
 use crate::book::{Law, Naming};
+use crate::counted::len_of;
 use crate::front::Front;
 use crate::open_book::{OpenBook, PARTS};
 use crate::own::Own;
@@ -29,14 +30,12 @@ pub struct NamedSeat<K: Eq + Hash, V, S: BuildHasher, J: Naming> {
 }
 
 impl<K: Eq + Hash, V, S: BuildHasher, J: Naming> Model for NamedSeat<K, V, S, J> {
-    ghost use Rattle.moka_parts.specs.Logs.{changes_in, IsLog};
+    ghost use Rattle.moka_parts.specs.Logs.{changes_in};
     ghost use Rattle.moka_parts.specs.Tables.{Sight};
 
     ghost Value = { Sight K V };
 
     ghost view = { λ s. (changes_in s.front, s.own) };
-
-    ghost invariant = { λ s. IsLog K.eq s.front };
 }
 
 impl<K: Eq + Hash, V, S: BuildHasher, J: Naming> NamedSeat<K, V, S, J> {
@@ -45,7 +44,7 @@ impl<K: Eq + Hash, V, S: BuildHasher, J: Naming> NamedSeat<K, V, S, J> {
     pub fn is_legal(&self)
         ensures { IsLegal K.eq (history self.now) }
     {
-        let _ = &self.front;
+        self.front.is_legal();
     }
 }
 
@@ -266,12 +265,6 @@ impl<K: Eq + Hash, V, S: BuildHasher, J: Naming, F: Fact<K, V>> SharedTable<K, V
     }
 
     fn len<R: Wait>(&self, rt: &R) -> u64 {
-        let mut count = 0u64;
-        for part in &self.parts {
-            let guard = part.lock(rt);
-            let part = &*guard;
-            count = count.saturating_add(part.len() as u64);
-        }
-        count
+        len_of(rt, &self.parts)
     }
 }

@@ -13,6 +13,7 @@ use moka_values::Exact;
 use std::alloc::{AllocError, Global};
 use std::collections::HashMap;
 use std::hash::{BuildHasher, Hash};
+use std::mem;
 
 /// A map of no more places than this keeps them all.
 const FEW: usize = 64;
@@ -62,19 +63,6 @@ fn take_entry<K: Eq + Hash, X, S: BuildHasher>(
     map.remove_entry(key)
 }
 
-/// Puts an entry where none stands. There is room, so it can't fail.
-fn put<K: Eq + Hash + Drop, X: Drop, S: BuildHasher>(map: &mut HashMap<K, X, S>, key: K, value: X)
-    requires absent { entry_at K.eq map.old key ≡ None }
-    requires room { 0 < spare map.old }
-    ensures map { (q : K) → entry_at K.eq map.new q
-        ≡ cond (K.eq key q) (Some (key, value)) (entry_at K.eq map.old q) }
-{
-    match map.insert(key, value) {
-        Ok(_) => {}
-        Err(_) => unreachable!(),
-    }
-}
-
 /// Puts the pair, and answers what the closure gives, which is lent the pair that stood there. What
 /// leaves the map comes beside it. There is room, so it can't fail.
 #[inline(always)]
@@ -104,7 +92,10 @@ where
                 }),
             )
         }
-        Err((key, value)) => put_anew(map, key, value, with),
+        Err((key, value)) => {
+            let given = with(find(map, &key));
+            (given, put_over(map, key, value))
+        }
     }
 }
 
@@ -129,52 +120,30 @@ fn renew<K: Eq + Hash, V, S: BuildHasher>(
     }
 }
 
-/// Takes out what stands at the key, lends it, and puts the pair: under the key that the map had,
-/// if it had one, so that the next pair is put where this one lies.
+/// Puts the pair: under the key that the map has, if it has one, so that the next pair is put where
+/// this one lies. What was held there comes back. There is room, so it can't fail.
 #[inline(never)]
-fn put_anew<K: Eq + Hash + Drop, V: Drop, S: BuildHasher, T, W>(
+fn put_over<K: Eq + Hash + Drop, V: Drop, S: BuildHasher>(
     map: &mut HashMap<K, Held<K, V>, S>,
     key: K,
     value: V,
-    with: W,
-) -> (T, Option<Held<K, V>>)
-where
-    W: FnOnce(Option<(&K, &V)>) -> T,
+) -> Option<Held<K, V>>
     requires room { 0 < spare map.old }
-    requires callable { (shown : Option (Bor K × Bor V))
-        → lent shown ≡ pair_at K.eq map.old key → W.pre with shown }
-    ensures shown { Shown W.FnOnce with (pair_at K.eq map.old key) result.0 }
     ensures map { (q : K) → pair_at K.eq map.new q
         ≡ cond (K.eq key q) (Some (key, value)) (pair_at K.eq map.old q) }
 {
-    let entry = take_entry(map, &key);
-    let given = with(lend(&entry));
-    match entry {
-        Some((stored, held)) => {
-            put(
-                map,
-                stored,
-                Held {
-                    newer: Some(key),
-                    value,
-                },
-            );
-            (given, Some(held))
-        }
+    match map.get_mut(&key) {
+        Some(held) => Some(mem::replace(
+            held,
+            Held {
+                newer: Some(key),
+                value,
+            },
+        )),
         None => {
             put_first(map, key, value);
-            (given, None)
+            None
         }
-    }
-}
-
-/// Lends the pair of an entry.
-fn lend<K, V>(entry: &Option<(K, Held<K, V>)>) -> Option<(&K, &V)>
-    ensures { lent result ≡ option_map pair_of entry.now }
-{
-    match entry {
-        Some((stored, held)) => Some(held.pair(stored)),
-        None => None,
     }
 }
 
@@ -190,7 +159,7 @@ pub(crate) fn make_room<K: Eq + Hash, V, S: BuildHasher>(
 }
 
 /// Puts the pair where none stands at the key. There is room, so it can't fail.
-pub(crate) fn put_first<K: Eq + Hash + Drop, V: Drop, S: BuildHasher>(
+fn put_first<K: Eq + Hash + Drop, V: Drop, S: BuildHasher>(
     map: &mut HashMap<K, Held<K, V>, S>,
     key: K,
     value: V,
@@ -201,7 +170,10 @@ pub(crate) fn put_first<K: Eq + Hash + Drop, V: Drop, S: BuildHasher>(
         ≡ cond (K.eq key q) (Some (key, value)) (pair_at K.eq map.old q) }
 {
     give_back(map);
-    put(map, key, Held { newer: None, value });
+    match map.insert(key, Held { newer: None, value }) {
+        Ok(_) => {}
+        Err(_) => unreachable!(),
+    }
 }
 
 /// Gives places back where there are many, and under an eighth of them is in use: twice as many as

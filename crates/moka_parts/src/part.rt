@@ -11,12 +11,13 @@ ghost use Rattle.moka_parts.specs.declared.note.Note.TheVariants.{Opened};
 ghost use Rattle.moka_parts.specs.Calls.{Judged, ShownSome, TakesOut};
 ghost use Rattle.moka_parts.specs.Changes.{map_after};
 ghost use Rattle.moka_parts.specs.Hashing.{part_in};
-ghost use Rattle.moka_parts.specs.Logs.{changes_in, IsLog, IsOpenedFor};
-ghost use Rattle.moka_parts.specs.Pairs.{lent, pair_in, PutsAt, SamePairs};
+ghost use Rattle.moka_parts.specs.Logs.{changes_in, IsOpenedFor};
+ghost use Rattle.moka_parts.specs.Pairs.{lent, pair_in, SamePairs};
 ghost use Rattle.moka_parts.specs.Parts.{EndsBy, IsIn};
 
 use crate::asked::Asked;
 use crate::book::{Law, Naming};
+use crate::counted::Counted;
 use crate::front::Front;
 use crate::held::Held;
 use crate::own::Own;
@@ -90,7 +91,6 @@ impl<K: Eq + Hash, V, S: BuildHasher, J: Naming, F: Fact<K, V>> Part<K, V, S, J,
         requires part { IsIn K.eq (part_in S.BuildHasher S.Hasher.Hasher K.hash_input) F.holds
             number key.now start.now }
         ensures grows { IsPrefix me.old me.new }
-        ensures log { IsLog K.eq me.new }
         ensures pair { IfSome result (λ found. lent found ≡ pair_in K.eq self.now key.now) }
         ensures found { IfSome result (λ found.
             lent found ≡ map_after K.eq (changes_in me.new) key.now) }
@@ -132,17 +132,15 @@ impl<K: Eq + Hash, V, S: BuildHasher, J: Naming, F: Fact<K, V>> Part<K, V, S, J,
         requires callable { (shown : Option (Bor K × Bor V))
             → IfSome shown (λ p. F.holds key p.1.now) → W.pre with shown }
         ensures grows { IsPrefix me.old me.new }
-        ensures log { IsLog K.eq me.new }
         ensures ends { IfOk result.0 (ShownSome W.FnOnce with (λ before.
             EndsBy key (Some value) before own.old own.new me.old me.new
             × (before ≡ pair_in K.eq self.old key) × IfSome before (λ p. F.holds key p.1))) }
-        ensures map { OnOk result.0 (PutsAt K.eq key (Some (key, value)) self.old self.new) }
         ensures err { OnErr result.0 (SamePairs K.eq self.old self.new) }
         ensures rests { OnErr result.0 (own.new ≡ own.old) }
     {
         me.learn(start);
         me.learn(&self.front);
-        if self.number != number || self.count == u64::MAX {
+        if self.number != number {
             return refused(key, value);
         }
         if pairs::make_room(&mut self.map).is_err() {
@@ -180,7 +178,6 @@ impl<K: Eq + Hash, V, S: BuildHasher, J: Naming, F: Fact<K, V>> Part<K, V, S, J,
         requires callable { (k : Bor K) (v : Bor V) → F.holds key.now v.now
             → C.pre condition k v }
         ensures grows { IsPrefix me.old me.new }
-        ensures log { IsLog K.eq me.new }
         ensures ok { IfOk result.0 (λ taken. TakesOut C.FnOnce condition key.now
             (map_after K.eq (changes_in me.new) key.now) taken own.old own.new me.old me.new) }
         ensures err { OnErr result.0 (SamePairs K.eq self.old self.new) }
@@ -201,7 +198,7 @@ impl<K: Eq + Hash, V, S: BuildHasher, J: Naming, F: Fact<K, V>> Part<K, V, S, J,
             return (Ok(None), None);
         }
         let asked = Asked::out(key, &self.map);
-        if self.count == u64::MAX || !me.add(&self.word, number, self.count, &asked, own) {
+        if !me.add(&self.word, number, self.count, &asked, own) {
             return (Err(AllocError), None);
         }
         self.count += 1;
@@ -229,7 +226,6 @@ impl<K: Eq + Hash, V, S: BuildHasher, J: Naming, F: Fact<K, V>> Part<K, V, S, J,
             number key start.now }
         requires fact { F.holds key value }
         ensures grows { IsPrefix me.old me.new }
-        ensures log { IsLog K.eq me.new }
         ensures answers { IfOk result.0 (λ there. MatchOption there
             (EndsBy key (Some value) None own.old own.new me.old me.new)
             (λ v. (option_map (λ p. p.1) (map_after K.eq (changes_in me.new) key) ≡ Some v)
@@ -264,7 +260,6 @@ impl<K: Eq + Hash, V, S: BuildHasher, J: Naming, F: Fact<K, V>> Part<K, V, S, J,
         requires part { IsIn K.eq (part_in S.BuildHasher S.Hasher.Hasher K.hash_input) F.holds
             number key.now start.now }
         ensures grows { IsPrefix me.old me.new }
-        ensures log { IsLog K.eq me.new }
         ensures pair { IfOk result (λ value.
             value ≡ option_map (λ p. p.1) (pair_in K.eq self.now key.now)) }
         ensures found { IfOk result (λ value.
@@ -272,7 +267,7 @@ impl<K: Eq + Hash, V, S: BuildHasher, J: Naming, F: Fact<K, V>> Part<K, V, S, J,
         ensures fact { IfOk result (λ value. IfSome value (F.holds key.now)) }
     {
         match self.find(number, start, me, key) {
-            Some(found) => copied_value(found),
+            Some(found) => copied(found),
             None => Err(AllocError),
         }
     }
@@ -290,7 +285,6 @@ impl<K: Eq + Hash, V, S: BuildHasher, J: Naming, F: Fact<K, V>> Part<K, V, S, J,
         K: Exact + Drop,
         requires start { (s : S) × (start.now ≡ Opened s ∷ []) }
         ensures grows { IsPrefix me.old me.new }
-        ensures log { IsLog K.eq me.new }
         ensures distinct { IfOk result (λ keys. IsDistinct K.eq keys.items) }
         ensures listed { IfOk result (λ keys. (s : S) → IsOpenedFor s start.now → (q : K)
             → is_member K.eq keys.items q ≡ is_some (cond
@@ -311,9 +305,10 @@ impl<K: Eq + Hash, V, S: BuildHasher, J: Naming, F: Fact<K, V>> Part<K, V, S, J,
         }
         pairs::keys(alloc, &self.map)
     }
+}
 
-    /// How many pairs there are.
-    pub(crate) fn len(&self) -> usize {
+impl<K: Eq + Hash, V, S: BuildHasher, J: Naming, F: Fact<K, V>> Counted for Part<K, V, S, J, F> {
+    fn len(&self) -> usize {
         self.map.len()
     }
 }
@@ -332,17 +327,17 @@ pub(crate) fn refused<T, K, V>(key: K, value: V) -> (Result<T, AllocError>, Opti
 }
 
 // A copy of the value of the pair, if there is one.
-fn copied_value<K, V: Exact>(found: Option<(&K, &V)>) -> Result<Option<V>, AllocError>
+pub(crate) fn copied<K, V: Exact>(found: Option<(&K, &V)>) -> Result<Option<V>, AllocError>
     ensures { IfOk result (λ copy. copy ≡ option_map (λ p. p.1) (lent found.entry)) }
 {
     match found {
-        Some((_, value)) => copied(value),
+        Some((_, value)) => Ok(Some(value.clone()?)),
         None => Ok(None),
     }
 }
 
 // What `put_if_absent` answers where `put` answers this.
-fn answered<V, X: Drop>(
+pub(crate) fn answered<V, X: Drop>(
     put: (Result<(), AllocError>, Option<X>),
 ) -> (Result<Option<V>, AllocError>, Option<X>)
     ensures ok { OnOk put.0 (result.0 ≡ Ok None) }
@@ -353,13 +348,6 @@ fn answered<V, X: Drop>(
         Ok(()) => (Ok(None), left),
         Err(_) => (Err(AllocError), left),
     }
-}
-
-// A copy of a value that stands in a table.
-pub(crate) fn copied<V: Exact>(value: &V) -> Result<Option<V>, AllocError>
-    ensures { IfOk result (λ copy. copy ≡ Some value.now) }
-{
-    Ok(Some(value.clone()?))
 }
 
 // Whether there is a pair, and the condition holds of it.

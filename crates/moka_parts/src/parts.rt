@@ -7,6 +7,7 @@ ghost use Rattle.moka_parts.specs.Calls.{Judged, ShownSome, Stays};
 ghost use Rattle.moka_parts.specs.Hashing.{part_in};
 
 use crate::bare::Bare;
+use crate::counted::len_of;
 use crate::open_book::PARTS;
 use crate::placing::part_of;
 use crate::{Anything, Fact, SharedTable};
@@ -156,13 +157,7 @@ impl<K: Eq + Hash, V, S: BuildHasher, F: Fact<K, V>> Parts<K, V, S, F> {
     /// How many pairs there are. The parts are counted one after the other, so it is exact only
     /// while nobody else changes the table.
     pub fn len<R: Wait>(&self, rt: &R) -> u64 {
-        let mut count = 0u64;
-        for part in &self.parts {
-            let guard = part.lock(rt);
-            let part = &*guard;
-            count = count.saturating_add(part.len() as u64);
-        }
-        count
+        len_of(rt, &self.parts)
     }
 }
 

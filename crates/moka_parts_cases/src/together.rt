@@ -1,7 +1,7 @@
 //! Many threads, each with a seat, on both tables.
 ghost use Rattle.std.specs.Prelude.{ℕ};
 
-use crate::calls::{Call, answer, listed, right};
+use crate::calls::{Call, Row, answer, listed, right};
 use crate::tables::{Case, on_both};
 use crate::totals::total;
 use moka_parts::SharedTable;
@@ -19,31 +19,49 @@ const KEYS: u64 = 512;
 const SHARE: u64 = 8;
 
 #[test]
-fn threads_share_each_table(rt: HostRuntime) -> Result<(), Fail> {
-    assert!(rt; on_both(&rt, rt.alloc(), Case::Share)?);
-    Ok(())
-}
-
-#[test]
-fn seats_of_threads_meet_at_each_table(rt: HostRuntime) -> Result<(), Fail> {
-    assert!(rt; on_both(&rt, rt.alloc(), Case::Meet)?);
+fn threads_share_each_table_and_their_seats_meet(rt: HostRuntime) -> Result<(), Fail> {
+    let is_right = on_both(&rt, rt.alloc(), Case::Share).unwrap_or(false);
+    assert!(rt; is_right && on_both(&rt, rt.alloc(), Case::Meet).unwrap_or(false));
     Ok(())
 }
 
 /// What each of the threads does at once.
 #[derive(Clone, Copy)]
 enum Deed {
-    /// It puts, finds and takes out keys of its own, and counts the calls that answer what they should.
+    /// It puts, finds and takes out keys of its own.
     OwnKeys,
-    /// It puts the keys of all where these are absent, and counts those that it has put.
+    /// It puts the keys of all where these are absent: each is put by one of the threads, and
+    /// stays as it is then.
     SameKeys,
-    /// It puts 1 at one key, many times, and sums the former values.
+    /// It puts 1 at one key, again and again. Each of these values that is put is the former one of
+    /// one other put, but for the last.
     OneKey,
 }
 
+impl Deed {
+    /// The calls for one of the keys, and what they answer: of `SameKeys` the first, and of
+    /// `OneKey` each where it is the other threads' turn.
+    fn rows(self, thread: u64, place: u64) -> [Row; 3] {
+        let own = thread.wrapping_mul(KEYS).wrapping_add(place);
+        match self {
+            Deed::OwnKeys => [
+                (own, Call::Put(place), None),
+                (own, Call::Look, Some(place)),
+                (own, Call::TakeOut(place), Some(place)),
+            ],
+            Deed::SameKeys => [
+                (place, Call::PutIfAbsent(0), None),
+                (place, Call::Look, Some(0)),
+                (place, Call::PutIfAbsent(1), Some(0)),
+            ],
+            Deed::OneKey => [(0, Call::Put(1), Some(1)); 3],
+        }
+    }
+}
+
 /// Each thread puts, finds and takes out keys of its own; then all put the same keys where these
-/// are absent; then all put 1 at one key, where each value that was put is the former one of one
-/// other put, but for the last: so none is lost.
+/// are absent; then all put 1 at one key, at which 0 stands: each put finds 1 there, but for the
+/// first, so no value is lost.
 pub(crate) fn all_together<
     Q: Drop + Send,
     T: SharedTable<u64, u64, Seat = Q> + Sync,
@@ -52,34 +70,34 @@ pub(crate) fn all_together<
     requires { (k v : ℕ) → T.holds k v }
 {
     let own = all_do(rt, alloc, table, Deed::OwnKeys)?;
-    let none_left = table.len(rt) == 0;
     let same = all_do(rt, alloc, table, Deed::SameKeys)?;
-    let all_left = table.len(rt) == KEYS;
-    let formers = all_do(rt, alloc, table, Deed::OneKey)?;
-    let last = answer(rt, table, &mut table.seat(), 0, Call::Look)?.unwrap_or(0);
-    let one = formers.wrapping_add(last);
-    let right = own == 3 * KEYS * THREADS as u64 && same == KEYS && one == KEYS * THREADS as u64;
-    Ok(right && none_left && all_left)
+    let one = all_do(rt, alloc, table, Deed::OneKey)?;
+    let right = own == (CALLS, 0) && same == (CALLS - KEYS * (THREADS as u64 - 1), KEYS);
+    Ok(right && one == (CALLS - 1, KEYS))
 }
 
-/// The sum of what the threads count.
+/// How many calls all threads make.
+const CALLS: u64 = 3 * KEYS * THREADS as u64;
+
+/// How many calls of the threads answer what they should, and how many pairs the table has then.
 fn all_do<Q: Drop + Send, T: SharedTable<u64, u64, Seat = Q> + Sync, R: Threads + Wait + Sync>(
     rt: &R,
     alloc: Global,
     table: &T,
     deed: Deed,
-) -> Result<u64, AllocError>
+) -> Result<(u64, u64), AllocError>
     requires { (k v : ℕ) → T.holds k v }
 {
-    total(
+    let count = total(
         rt,
         alloc,
         THREADS,
         &|thread| done(rt, table, deed, thread as u64).unwrap_or(0),
-    )
+    )?;
+    Ok((count, table.len(rt)))
 }
 
-/// What one of the threads counts, with a seat of its own.
+/// How many calls of one of the threads answer what they should, with a seat of its own.
 fn done<Q: Drop, T: SharedTable<u64, u64, Seat = Q>, R: Wait>(
     rt: &R,
     table: &T,
@@ -91,37 +109,9 @@ fn done<Q: Drop, T: SharedTable<u64, u64, Seat = Q>, R: Wait>(
     let mut seat = table.seat();
     let mut count = 0u64;
     for place in 0..KEYS {
-        count = count.wrapping_add(counted(rt, table, &mut seat, deed, thread, place)?);
+        count = count.wrapping_add(right(rt, table, &mut seat, &deed.rows(thread, place))?);
     }
     Ok(count)
-}
-
-/// What it counts of one of the keys.
-fn counted<Q: Drop, T: SharedTable<u64, u64, Seat = Q>, R: Wait>(
-    rt: &R,
-    table: &T,
-    seat: &mut Q,
-    deed: Deed,
-    thread: u64,
-    place: u64,
-) -> Result<u64, AllocError>
-    requires { (k v : ℕ) → T.holds k v }
-{
-    let own = thread.wrapping_mul(KEYS).wrapping_add(place);
-    match deed {
-        Deed::OwnKeys => right(
-            rt,
-            table,
-            seat,
-            &[
-                (own, Call::Put(place), None),
-                (own, Call::Look, Some(place)),
-                (own, Call::TakeOut(place), Some(place)),
-            ],
-        ),
-        Deed::SameKeys => right(rt, table, seat, &[(place, Call::PutIfAbsent(0), None)]),
-        Deed::OneKey => Ok(answer(rt, table, seat, 0, Call::Put(1))?.unwrap_or(0)),
-    }
 }
 
 /// Each thread puts keys of its own, and hands its seat back. One seat meets all of them, and then
@@ -143,12 +133,23 @@ pub(crate) fn all_meet<
     for mut other in seats {
         table.meet(&mut seat, &mut other);
     }
+    finds_all(rt, alloc, table, &mut seat)
+}
+
+/// Whether the seat finds and lists what all have put.
+fn finds_all<Q: Drop, T: SharedTable<u64, u64, Seat = Q>, R: Wait>(
+    rt: &R,
+    alloc: Global,
+    table: &T,
+    seat: &mut Q,
+) -> Result<bool, AllocError>
+    requires { (k v : ℕ) → T.holds k v }
+{
     let mut found = 0u64;
     for key in 0..KEYS {
-        let rows = [(key, Call::Look, Some(key))];
-        found = found.wrapping_add(right(rt, table, &mut seat, &rows)?);
+        found = found.wrapping_add(right(rt, table, seat, &[(key, Call::Look, Some(key))])?);
     }
-    let listed = listed(rt, alloc, table, &mut seat, KEYS)?;
+    let listed = listed(rt, alloc, table, seat, KEYS)?;
     Ok(found == KEYS && listed == KEYS && table.len(rt) == KEYS)
 }
 

@@ -27,7 +27,7 @@ fn note<R: Wait>(rt: &R, pages: &Pages, page: u64) -> Result<u64, AllocError> {
 
 #[test]
 fn no_visit_is_lost(rt: HostRuntime) -> Result<(), Fail> {
-    assert!(rt; are_all_counted(&rt, rt.alloc())?);
+    assert!(rt; are_all_counted(&rt, rt.alloc()).unwrap_or(false));
     Ok(())
 }
 

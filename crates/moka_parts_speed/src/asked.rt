@@ -3,60 +3,66 @@
 use crate::works::Work;
 use std::{env, io};
 
-/// The words of the command line: a peer, a work, how many calls, how many threads, how many keys.
-#[derive(Drop)]
+/// The peers that are timed, what the calls do, how many are made, by how many threads, and how many
+/// keys are stored.
+#[derive(Clone, Copy)]
 pub(crate) struct Asked {
-    words: Vec<String>,
+    pub(crate) parts: bool,
+    pub(crate) named: bool,
+    pub(crate) map: bool,
+    pub(crate) work: Work,
+    pub(crate) calls: u64,
+    pub(crate) threads: u64,
+    pub(crate) keys: u64,
 }
 
 impl Asked {
-    /// Reads the command line.
+    /// Reads the command line: a peer, a work, how many calls, how many threads, how many keys.
     pub(crate) fn read(rt: &HostRuntime) -> io::Result<Asked> {
-        let mut words = Vec::new(rt.alloc());
+        let mut asked = Asked {
+            parts: true,
+            named: true,
+            map: true,
+            work: Work::Get,
+            calls: 1000,
+            threads: 1,
+            keys: 1000,
+        };
+        let mut place = 0u64;
         for word in env::args(rt)?.skip(1) {
-            words.push(word)?;
+            asked.hear(place, word.as_str());
+            place = place.wrapping_add(1);
         }
-        Ok(Asked { words })
+        Ok(asked)
     }
 
-    /// Whether this peer is asked for.
-    pub(crate) fn is_peer(&self, name: &str) -> bool {
-        match self.words.get(0) {
-            Some(word) => word.as_str() == name || word.as_str() == "all",
-            None => true,
-        }
-    }
-
-    /// What the calls do.
-    pub(crate) fn work(&self) -> Work {
-        match self.words.get(1) {
-            Some(word) => Work::of(word.as_str()),
-            None => Work::Get,
-        }
-    }
-
-    /// How many calls are made.
-    pub(crate) fn calls(&self) -> u64 {
-        self.number(2).unwrap_or(1000)
-    }
-
-    /// How many threads share them.
-    pub(crate) fn threads(&self) -> u64 {
-        self.number(3).unwrap_or(1).max(1)
-    }
-
-    /// How many of them each thread makes.
+    /// How many of the calls each thread makes.
     pub(crate) fn share(&self) -> u64 {
-        self.calls().checked_div(self.threads()).unwrap_or(0)
+        self.calls.checked_div(self.threads).unwrap_or(0)
     }
 
-    /// How many keys are stored.
-    pub(crate) fn keys(&self) -> u64 {
-        self.number(4).unwrap_or(1000)
+    // Takes in the word at this place.
+    fn hear(&mut self, place: u64, word: &str) {
+        match place {
+            0 => self.choose(word),
+            1 => self.work = Work::of(word),
+            2 => self.calls = number(word, self.calls),
+            3 => self.threads = number(word, 1).max(1),
+            4 => self.keys = number(word, self.keys),
+            _ => {}
+        }
     }
 
-    // The number of the word at this place, if it is one.
-    fn number(&self, place: usize) -> Option<u64> {
-        self.words.get(place)?.as_str().parse::<u64>().ok()
+    // Asks for the peer of this name, or for all.
+    fn choose(&mut self, name: &str) {
+        let is_all = name == "all";
+        self.parts = is_all || name == "parts";
+        self.named = is_all || name == "named";
+        self.map = is_all || name == "map";
     }
+}
+
+// The number of the word, or the other one if the word is none.
+fn number(word: &str, other: u64) -> u64 {
+    word.parse::<u64>().unwrap_or(other)
 }

@@ -25,13 +25,18 @@ pub(crate) fn of_table<Q: Drop, T: SharedTable<u64, u64, Seat = Q>, R: Wait>(
     for call in 0..calls {
         let key = work.key_of(call, thread, keys);
         let hit = if work.is_put(call) {
-            table.put(rt, &mut seat, key, call, |before| before.is_some())
+            table.put(rt, &mut seat, key, call, is_there)
         } else {
-            table.look(rt, &mut seat, &key, |pair| pair.is_some())
+            table.look(rt, &mut seat, &key, is_there)
         };
         found = found.wrapping_add(u64::from(hit.unwrap_or(false)));
     }
     found
+}
+
+/// Whether a pair is lent.
+fn is_there(pair: Option<(&u64, &u64)>) -> bool {
+    pair.is_some()
 }
 
 /// Looks up or puts at std's map under one lock, and tells how many calls found a pair.

@@ -23,13 +23,13 @@ pub(crate) fn measure<R: Threads + Wait + Clock + Print + Eprint + Sync>(
     alloc: Global,
     asked: &Asked,
 ) -> io::Result<()> {
-    if asked.is_peer("parts") {
+    if asked.parts {
         time_parts(rt, alloc, asked)?;
     }
-    if asked.is_peer("named") {
+    if asked.named {
         time_named::<Brand, _>(rt, alloc, OpenBook::new(BuildHasherDefault::new()), asked)?;
     }
-    if asked.is_peer("map") {
+    if asked.map {
         time_map(rt, alloc, asked)?;
     }
     Ok(())
@@ -70,7 +70,7 @@ where
     R: Threads + Wait + Clock + Print + Eprint + Sync,
     requires { (k v : ℕ) → T.holds k v }
 {
-    let (work, keys, calls) = (asked.work(), asked.keys(), asked.share());
+    let (work, keys, calls) = (asked.work, asked.keys, asked.share());
     let _ = of_table(rt, table, Work::Put, keys, 0, keys);
     time(
         rt,
@@ -88,7 +88,7 @@ fn time_map<R: Threads + Wait + Clock + Print + Eprint + Sync>(
     asked: &Asked,
 ) -> io::Result<()> {
     let map: Map = Mutex::new(HashMap::new(alloc));
-    let (work, keys, calls) = (asked.work(), asked.keys(), asked.share());
+    let (work, keys, calls) = (asked.work, asked.keys, asked.share());
     let _ = of_map(rt, &map, Work::Put, keys, 0, keys);
     time(
         rt,
@@ -112,7 +112,7 @@ fn time<F: Fn(usize) -> u64 + Sync, R: Threads + Clock + Print + Eprint + Sync>(
 {
     let start = Instant::now(rt)?;
     let mut all = 0u64;
-    for found in thread::map_indices(rt, alloc, asked.threads() as usize, run)? {
+    for found in thread::map_indices(rt, alloc, asked.threads as usize, run)? {
         all = all.wrapping_add(found);
     }
     tell(rt, name, asked, all, start.elapsed(rt)?.as_nanos())

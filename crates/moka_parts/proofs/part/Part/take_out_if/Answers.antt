@@ -1,4 +1,4 @@
-use Rattle.std.proofs.Common.{◌≡◌, ◌+◌, true, false, Option, None, IfSome, refl, ap, sym, subst, ◌∙◌}
+use Rattle.std.proofs.Common.{◌≡◌, ◌+◌, ◌<◌, ℕ, true, false, Option, None, IfSome, refl, ap, sym, subst, ◌∙◌}
 use mathlib.Core.List.{IsPrefix}
 use Rattle.moka_parts.specs.declared.change.Change.{Change}
 use Rattle.moka_parts.specs.Calls.{Judged}
@@ -8,6 +8,7 @@ use Rattle.moka_parts.specs.Hashing.{part_in}
 use Rattle.moka_parts.specs.Logs.{Counts, Grows, changes_in}
 use Rattle.moka_parts.specs.Pairs.{pair_at, lent}
 use Rattle.moka_parts.specs.Parts.{EndsBy}
+use Rattle.moka_parts.specs.Rules.{word_of}
 use Rattle.moka_parts.proofs.Alike.{part_alike}
 use Rattle.moka_parts.proofs.Prefixes.{prefix_trans}
 use Rattle.moka_parts.proofs.Parting.{is_here, front_says, find_says, part_follows}
@@ -78,7 +79,7 @@ invariant_of-self g c =
     counts.0 counts.1.opened kept.counts.opened ∙ sym same in
     let follows = part_follows eq part holds alike g.J.Naming.book inside.number inside.count inside.word inside.front inside.map kept change seen c.add.new.self
     here c.sees.ensures.front grows c.take-taken.new.map c.take-taken.ensures.map (λ q e. tt) in
-    rw c.again.ensures.same follows
+    rw c.again.ensures follows
 
 pub returns-clause-ok : goal.returns-clause-ok
 returns-clause-ok g c =
@@ -104,3 +105,17 @@ returns-clause-fact g c =
 pub holds_of-requires : goal.holds_of-requires
 holds_of-requires g c =
     may_call (g.F.Fact.holds c.args.key.now) _ c.find.result (pair_at g.K.PartialEq.eq c.self.inside.map c.args.key.now) c.find.ensures (c.self.invariant.meets c.args.key.now) c.requires.callable
+
+pub sees-requires : goal.sees-requires
+sees-requires g c = record { word = (c.self.invariant.word_is, c.self.invariant.small) }
+
+pub add-requires-clause-word : goal.add-requires-clause-word
+add-requires-clause-word g c =
+    let same = c.if-not-sees.ensures.counts.0 in
+    (c.self.invariant.word_is ∙ ap (word_of g.J.Naming.book) same, subst (λ (n : ℕ). n < 64) same c.self.invariant.small)
+
+pub returns-then-not-add-clause-grows : goal.returns-then-not-add-clause-grows
+returns-then-not-add-clause-grows g c = prefix_trans c.args.me.now c.sees.new.self c.add.new.self c.sees.ensures.grows c.add.ensures.grows
+
+pub returns-clause-grows : goal.returns-clause-grows
+returns-clause-grows g c = prefix_trans c.args.me.now c.sees.new.self c.add.new.self c.sees.ensures.grows c.add.ensures.grows
