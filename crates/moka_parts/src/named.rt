@@ -116,9 +116,9 @@ impl<K: Eq + Hash, V, S: BuildHasher + Clone + Drop, J: Naming, F: Fact<K, V>> N
         let start = Front::of(seen);
         let mut parts = Vec::with_capacity(alloc, PARTS)?;
         for number in 0..PARTS {
-            let mut pen = pens.take();
-            let part = Part::new(alloc, number, hasher.clone()?, &start, &mut pen);
-            parts.push(Mutex::new(part))?;
+            let hasher = hasher.clone()?;
+            let part = Part::new(alloc, number, hasher, &start, pens.take());
+            parts.push_reserved(Mutex::new(part));
         }
         let door = Word::tracked(0, &mut pens.take());
         Ok(NamedParts {

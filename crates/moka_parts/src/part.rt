@@ -62,16 +62,16 @@ impl<K: Eq + Hash, V, S: BuildHasher, J: Naming, F: Fact<K, V>> Part<K, V, S, J,
         number: usize,
         hasher: S,
         start: &Front<K, V, S, J>,
-        pen: &mut Pen,
+        mut pen: Pen,
     ) -> Self
         requires small { number < 64 }
         requires start { (s : S) × (start.now ≡ Opened s ∷ []) }
-        requires pen { (pen.old.book ≡ J.book) × (pen.old.nib ≡ nib may_make_home number 0) }
+        requires pen { (pen.book ≡ J.book) × (pen.nib ≡ nib may_make_home number 0) }
     {
         Part {
             number,
             count: 0,
-            word: Word::tracked(0, pen),
+            word: Word::tracked(0, &mut pen),
             front: start.again(),
             map: HashMap::with_hasher(alloc, hasher),
             of: PhantomData,

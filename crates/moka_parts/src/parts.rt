@@ -48,7 +48,8 @@ impl<K: Eq + Hash, V, S: BuildHasher + Clone + Drop, F: Fact<K, V>> Parts<K, V, 
     {
         let mut parts = Vec::with_capacity(alloc, PARTS)?;
         for _number in 0..PARTS {
-            parts.push(Mutex::new(Bare::new(alloc, hasher.clone()?)))?;
+            let hasher = hasher.clone()?;
+            parts.push_reserved(Mutex::new(Bare::new(alloc, hasher)));
         }
         Ok(Parts { hasher, parts })
     }

@@ -3,13 +3,15 @@
 use crate::works::Work;
 use std::{env, io};
 
-/// The peers that are timed, what the calls do, how many are made, by how many threads, and how many
-/// keys are stored.
+/// The peers that are timed, and the cases that are tried; what the calls do, how many are made, by
+/// how many threads, and how many keys are stored.
 #[derive(Clone, Copy)]
 pub(crate) struct Asked {
     pub(crate) parts: bool,
     pub(crate) named: bool,
     pub(crate) map: bool,
+    pub(crate) memory: bool,
+    pub(crate) cases: bool,
     pub(crate) work: Work,
     pub(crate) calls: u64,
     pub(crate) threads: u64,
@@ -23,6 +25,8 @@ impl Asked {
             parts: true,
             named: true,
             map: true,
+            memory: true,
+            cases: true,
             work: Work::Get,
             calls: 1000,
             threads: 1,
@@ -53,12 +57,14 @@ impl Asked {
         }
     }
 
-    // Asks for the peer of this name, or for all.
+    // Asks for the peer of this name, for the cases, or for all.
     fn choose(&mut self, name: &str) {
         let is_all = name == "all";
         self.parts = is_all || name == "parts";
         self.named = is_all || name == "named";
         self.map = is_all || name == "map";
+        self.cases = is_all || name == "cases";
+        self.memory = self.cases || name == "memory";
     }
 }
 

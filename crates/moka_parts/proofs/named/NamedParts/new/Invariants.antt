@@ -1,4 +1,5 @@
-use Rattle.std.proofs.Common.{◌≡◌, ◌+◌, length}
+use Rattle.std.proofs.Common.{◌≡◌, ◌+◌, length, vec_len}
+use Rattle.std.specs.Vec.{vec_capacity}
 use Rattle.moka_parts.proofs.named.NamedParts.new.Given as goal
 
 abbrev pub invariant-loop-number : goal.invariant-loop-number
@@ -7,4 +8,6 @@ invariant-loop-number g l = record {
   next : l.pens.next ≡ l.number;
   left : l.pens.left + l.number ≡ 65;
   many : length l.parts.items ≡ l.number;
+  made : vec_len l.parts ≡ l.number;
+  room : vec_capacity l.parts ≡ 64;
 }

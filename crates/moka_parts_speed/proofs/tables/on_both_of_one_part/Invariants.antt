@@ -1,4 +1,4 @@
-use Rattle.moka_parts_cases.proofs.tables.on_both_of_one_part.Given as goal
+use Rattle.moka_parts_speed.proofs.tables.on_both_of_one_part.Given as goal
 
 -- the book that was just opened
 abbrev pub ghosts-on_book_of_one_part : goal.ghosts-on_book_of_one_part

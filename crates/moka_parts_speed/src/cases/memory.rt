@@ -1,26 +1,12 @@
-//! Want of memory. With `rt try --test --fail-alloc N` the Nth allocation is refused.
+//! Want of memory. With `rt try --fail-alloc N` the Nth allocation is refused.
 ghost use Rattle.std.specs.Prelude.{ℕ};
 
-use crate::calls::{Call, Row, answer, listed, right};
-use crate::tables::{Case, on_named, on_parts};
+use super::rows::{Call, Row, answer, listed, right};
 use moka_parts::SharedTable;
 use std::alloc::{AllocError, Global};
 use std::sync::Wait;
-use std::test::*;
 
 const KEYS: u64 = 200;
-
-#[test]
-fn memory_is_refused_to_a_table(rt: HostRuntime) -> Result<(), Fail> {
-    assert!(rt; on_parts(&rt, rt.alloc(), Case::Memory).unwrap_or(true));
-    Ok(())
-}
-
-#[test]
-fn memory_is_refused_to_a_named_table(rt: HostRuntime) -> Result<(), Fail> {
-    assert!(rt; on_named(&rt, rt.alloc(), Case::Memory).unwrap_or(true));
-    Ok(())
-}
 
 /// What is done with each key, and another one.
 #[derive(Clone, Copy)]

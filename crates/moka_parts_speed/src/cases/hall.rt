@@ -1,11 +1,11 @@
 //! A hall whose places many guests book at once.
 
+use crate::tables::new_parts;
 use crate::totals::total;
 use moka_parts::Parts;
 use std::alloc::{AllocError, Global};
 use std::hash::{BuildHasherDefault, FoldHasher};
 use std::sync::Wait;
-use std::test::*;
 use std::thread::Threads;
 
 const PLACES: u64 = 100;
@@ -26,16 +26,12 @@ fn cancel<R: Wait>(rt: &R, hall: &Hall, place: u64, guest: u64) -> bool {
         .is_some()
 }
 
-#[test]
-fn each_place_is_booked_by_one_guest(rt: HostRuntime) -> Result<(), Fail> {
-    assert!(rt; are_booked_once(&rt, rt.alloc()).unwrap_or(false));
-    Ok(())
-}
-
 /// Whether each place of a new hall is booked by one guest.
-fn are_booked_once<R: Threads + Wait + Sync>(rt: &R, alloc: Global) -> Result<bool, AllocError> {
-    let hall: Hall = Parts::new(alloc, BuildHasherDefault::new())?;
-    all_book(rt, alloc, &hall)
+pub(crate) fn are_booked_once<R: Threads + Wait + Sync>(
+    rt: &R,
+    alloc: Global,
+) -> Result<bool, AllocError> {
+    all_book(rt, alloc, &new_parts(alloc)?)
 }
 
 /// All guests book all places at once: each place is booked by one of them. Then each gives back

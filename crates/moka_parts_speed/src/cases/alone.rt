@@ -1,19 +1,10 @@
 //! Two callers in one thread, on both tables.
 ghost use Rattle.std.specs.Prelude.{ℕ};
 
-use crate::calls::{Call, Row, right};
-use crate::tables::{Case, on_both, on_both_of_one_part};
+use super::rows::{Call, Row, right};
 use moka_parts::SharedTable;
 use std::alloc::{AllocError, Global};
 use std::sync::Wait;
-use std::test::*;
-
-#[test]
-fn one_seat_of_each_table(rt: HostRuntime) -> Result<(), Fail> {
-    let is_right = on_both(&rt, rt.alloc(), Case::OneSeat).unwrap_or(false);
-    assert!(rt; is_right && on_both_of_one_part(&rt, rt.alloc()).unwrap_or(false));
-    Ok(())
-}
 
 /// What one caller does with an empty table.
 const ALONE: [Row; 8] = [

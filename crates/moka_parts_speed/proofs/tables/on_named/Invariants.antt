@@ -1,4 +1,4 @@
-use Rattle.moka_parts_cases.proofs.tables.on_named.Given as goal
+use Rattle.moka_parts_speed.proofs.tables.on_named.Given as goal
 
 -- the book that was just opened
 abbrev pub ghosts-on_book : goal.ghosts-on_book

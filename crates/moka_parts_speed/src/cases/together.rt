@@ -1,13 +1,11 @@
 //! Many threads, each with a seat, on both tables.
 ghost use Rattle.std.specs.Prelude.{ℕ};
 
-use crate::calls::{Call, Row, answer, listed, right};
-use crate::tables::{Case, on_both};
+use super::rows::{Call, Row, answer, listed, right};
 use crate::totals::total;
 use moka_parts::SharedTable;
 use std::alloc::{AllocError, Global};
 use std::sync::Wait;
-use std::test::*;
 use std::thread;
 use std::thread::Threads;
 
@@ -17,13 +15,6 @@ const KEYS: u64 = 512;
 
 /// How many of the keys one of the threads puts, where they share them.
 const SHARE: u64 = 8;
-
-#[test]
-fn threads_share_each_table_and_their_seats_meet(rt: HostRuntime) -> Result<(), Fail> {
-    let is_right = on_both(&rt, rt.alloc(), Case::Share).unwrap_or(false);
-    assert!(rt; is_right && on_both(&rt, rt.alloc(), Case::Meet).unwrap_or(false));
-    Ok(())
-}
 
 /// What each of the threads does at once.
 #[derive(Clone, Copy)]

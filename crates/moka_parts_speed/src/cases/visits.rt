@@ -1,11 +1,11 @@
 //! A count that many threads add to, of which no addition is lost.
 
+use crate::tables::new_parts;
 use crate::totals::total;
 use moka_parts::Parts;
 use std::alloc::{AllocError, Global};
 use std::hash::{BuildHasherDefault, FoldHasher};
 use std::sync::Wait;
-use std::test::*;
 use std::thread::Threads;
 
 const VISITS: u64 = 1000;
@@ -25,16 +25,12 @@ fn note<R: Wait>(rt: &R, pages: &Pages, page: u64) -> Result<u64, AllocError> {
     })
 }
 
-#[test]
-fn no_visit_is_lost(rt: HostRuntime) -> Result<(), Fail> {
-    assert!(rt; are_all_counted(&rt, rt.alloc()).unwrap_or(false));
-    Ok(())
-}
-
 /// Whether each visit of a new page is counted.
-fn are_all_counted<R: Threads + Wait + Sync>(rt: &R, alloc: Global) -> Result<bool, AllocError> {
-    let pages: Pages = Parts::new(alloc, BuildHasherDefault::new())?;
-    all_come(rt, alloc, &pages)
+pub(crate) fn are_all_counted<R: Threads + Wait + Sync>(
+    rt: &R,
+    alloc: Global,
+) -> Result<bool, AllocError> {
+    all_come(rt, alloc, &new_parts(alloc)?)
 }
 
 /// Visitors come by all doors at once, and each door counts what its visits took out. With what is
