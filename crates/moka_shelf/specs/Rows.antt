@@ -1,17 +1,17 @@
 -- How a shelf is laid out. A number lies at the place that comes 32 after it. The first twelve rows
 -- are as long as their first place: 32, 64, and so on up to 65,536. From the place 131,072 on each
 -- row has 65,536 places.
-use Rattle.std.specs.Prelude.{◌≡◌, ◌<◌, ℕ, ◌+◌, ◌*◌, ◌^◌, List, [], length}
+use Rattle.std.specs.Prelude.{◌≡◌, ◌<◌, ℕ, ◌+◌, ◌*◌, ◌^◌, List, length}
 use Rattle.boxcar.specs.Slot.{Named}
 use Rattle.boxcar.specs.Table.{span, Tagged}
 
--- the slots have the places from this one on, each in its tag
-abbrev pub From : ℕ → List Named → Type 0
-From place slots = Tagged [] place (length slots) slots
+-- the slots have the places from this one on, each in its tag, before the names of the table
+abbrev pub From : List ℕ → ℕ → List Named → Type 0
+From names place slots = Tagged names place (length slots) slots
 
 -- the first rows have the numbers from 0, and so have the groups of later rows
-abbrev pub AreRows : List Named → List Named → Type 0
-AreRows first later = Tagged [] 0 12 first × Tagged [] 0 48 later
+abbrev pub AreRows : List ℕ → List Named → List Named → Type 0
+AreRows names first later = Tagged names 0 12 first × Tagged names 0 48 later
 
 -- the offset in the first row of this number is that of the place
 abbrev pub IsInFirst : ℕ → ℕ → ℕ → Type 0

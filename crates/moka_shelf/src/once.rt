@@ -1,14 +1,14 @@
 //! A shelf of slots that are each written once.
 ghost use Rattle.std.specs.Prelude.{◌≡◌, ◌≤◌, ◌<◌, ◌+◌, ◌^◌, [], ◌∷◌, IfNone, IfOk, IfSome};
 ghost use Rattle.moka_shelf.specs.Looks.{Rises};
-ghost use Rattle.moka_shelf.specs.Rows.{AreRows};
 
 use crate::rows::{
-    FIRST_PLACES, FIRST_ROWS, FirstRow, GROUPS, Group, LONGEST, OwnItem, Row, RowsOfGroup,
+    FIRST_PLACES, FIRST_ROWS, FirstRow, GROUPS, Group, LONGEST, OwnItem, Row, RowsOfGroup, copy_of,
     first_length, in_first, in_group, in_later, new_slots,
 };
 use crate::shelf::{Numbered, Shelf};
 use boxcar::slot::OnceSlot;
+use boxcar::tag::Tag;
 use std::alloc::{AllocError, Global};
 use std::marker::Model;
 
@@ -57,25 +57,33 @@ impl Hidden {
 #[derive(Drop)]
 pub struct OnceShelf<T: Numbered> {
     alloc: Global,
+    names: Tag,
     first: Vec<OnceSlot<Row<T>, FirstRow>>,
     later: Vec<OnceSlot<Group<T>, RowsOfGroup>>,
 }
 
 impl<T: Numbered> Model for OnceShelf<T> {
-    ghost Value = { Unit {0} };
+    ghost use Rattle.std.specs.Prelude.{ℕ, List};
+    ghost use Rattle.moka_shelf.specs.Rows.{AreRows};
 
-    ghost view = { λ shelf. tt };
+    ghost Value = { List ℕ };
 
-    ghost invariant = { λ shelf. AreRows shelf.first.items shelf.later.items };
+    ghost view = { λ shelf. shelf.names.numbers };
+
+    ghost invariant = { λ shelf. AreRows shelf.names.numbers shelf.first.items shelf.later.items };
 }
 
 impl<T: Numbered + Drop> OnceShelf<T> {
-    /// Makes a shelf on which nothing is set. An error comes where memory is wanting.
-    pub fn new(alloc: Global) -> Result<Self, AllocError> {
-        let first = new_slots(alloc, 0, FIRST_ROWS)?;
-        let later = new_slots(alloc, 0, GROUPS)?;
+    /// Makes a shelf on which nothing is set, for a table of these names. An error comes where
+    /// memory is wanting.
+    pub fn new(alloc: Global, names: &Tag) -> Result<Self, AllocError>
+        ensures { IfOk result (λ shelf. shelf ≡ names.now.numbers) }
+    {
+        let first = new_slots(alloc, names, 0, FIRST_ROWS)?;
+        let later = new_slots(alloc, names, 0, GROUPS)?;
         Ok(OnceShelf {
             alloc,
+            names: copy_of(names),
             first,
             later,
         })
@@ -100,7 +108,7 @@ impl<T: Numbered + Drop> OnceShelf<T> {
         let slot = &self.first[row];
         if slot.get().is_none() {
             let length = first_length(row);
-            drop(slot.set_written(new_slots(self.alloc, length, length)?));
+            drop(slot.set_written(new_slots(self.alloc, &self.names, length, length)?));
         }
         Ok(())
     }
@@ -115,7 +123,7 @@ impl<T: Numbered + Drop> OnceShelf<T> {
             return Err(AllocError);
         };
         if slot.get().is_none() {
-            drop(slot.set_written(new_slots(self.alloc, row * LONGEST, LONGEST)?));
+            drop(slot.set_written(new_slots(self.alloc, &self.names, row * LONGEST, LONGEST)?));
         }
         Ok(())
     }
@@ -127,7 +135,7 @@ impl<T: Numbered + Drop> OnceShelf<T> {
         let slot = &self.later[group];
         if slot.get().is_none() {
             let count = 1 << group;
-            drop(slot.set_written(new_slots(self.alloc, count, count)?));
+            drop(slot.set_written(new_slots(self.alloc, &self.names, count, count)?));
         }
         Ok(())
     }
@@ -137,7 +145,7 @@ impl<T: Numbered> OnceShelf<T> {
     // The slot of this place, where its row is there.
     fn slot(&self, place: usize) -> Option<&OnceSlot<T, OwnItem>>
         requires least { 32 ≤ place }
-        ensures { IfSome result (λ slot. slot.now.tag ≡ place ∷ []) }
+        ensures { IfSome result (λ slot. slot.now.tag ≡ place ∷ self.now) }
     {
         if place < FIRST_PLACES {
             let (row, offset) = in_first(place);
@@ -150,7 +158,8 @@ impl<T: Numbered> OnceShelf<T> {
 
     // The item of this number, where it is there.
     fn find(&self, number: u64) -> Option<&T>
-        ensures { IfSome result (λ item. T.number item.now ≡ number) }
+        ensures number { IfSome result (λ item. T.number item.now ≡ number) }
+        ensures names { IfSome result (λ item. T.names item.now ≡ self.now) }
     {
         if number >= NUMBERS {
             return None;
@@ -164,7 +173,7 @@ impl<T: Numbered + Drop> OnceShelf<T> {
     fn laid(&self, place: usize) -> Result<&OnceSlot<T, OwnItem>, AllocError>
         requires least { 32 ≤ place }
         requires most { place < 2 ^ 63 + 32 }
-        ensures { IfOk result (λ slot. slot.now.tag ≡ place ∷ []) }
+        ensures { IfOk result (λ slot. slot.now.tag ≡ place ∷ self.now) }
     {
         if let Some(slot) = self.slot(place) {
             return Ok(slot);
@@ -200,6 +209,8 @@ impl<T: Numbered> Shelf<T> for OnceShelf<T> {
     ghost hidden = { λ look. look.count };
 
     ghost last = { λ look. look.last };
+
+    ghost owner = { λ shelf. shelf };
 
     fn fresh_look(&self) -> Hidden {
         Hidden { count: 0, last: 0 }

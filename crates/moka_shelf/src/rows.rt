@@ -1,6 +1,6 @@
 //! Rows of slots, and where a number lies in them.
 ghost use Rattle.std.specs.Prelude.{◌≡◌, ◌≤◌, ◌<◌, ℕ, ◌+◌, ◌*◌, ◌^◌, List, [], ◌∷◌, IfOk, length};
-ghost use Rattle.boxcar.specs.Table.{first, span, Tagged};
+ghost use Rattle.boxcar.specs.Table.{first, others, span, Tagged};
 ghost use Rattle.moka_shelf.specs.Rows.{From, IsInFirst, IsInGroup, IsInLater};
 
 use crate::shelf::Numbered;
@@ -24,7 +24,7 @@ pub(crate) const FIRST_PLACES: usize = 131_072;
 pub(crate) struct OwnItem;
 
 impl<T: Numbered> SlotRule<T> for OwnItem {
-    ghost holds = { λ tag item. T.number item + 32 ≡ first tag };
+    ghost holds = { λ tag item. (T.number item + 32 ≡ first tag) × (T.names item ≡ others tag) };
 }
 
 /// A row of items.
@@ -34,14 +34,14 @@ pub(crate) type Row<T> = Vec<OnceSlot<T, OwnItem>>;
 pub(crate) struct FirstRow;
 
 impl<T: Numbered> SlotRule<Vec<OnceSlot<T, OwnItem>>> for FirstRow {
-    ghost holds = { λ tag row. From (span (first tag)) row.items };
+    ghost holds = { λ tag row. From (others tag) (span (first tag)) row.items };
 }
 
 /// The slots of a later row have the places from 65,536 times its number on.
 pub(crate) struct LaterRow;
 
 impl<T: Numbered> SlotRule<Vec<OnceSlot<T, OwnItem>>> for LaterRow {
-    ghost holds = { λ tag row. From (first tag * 65536) row.items };
+    ghost holds = { λ tag row. From (others tag) (first tag * 65536) row.items };
 }
 
 /// A group of later rows.
@@ -51,30 +51,59 @@ pub(crate) type Group<T> = Vec<OnceSlot<Vec<OnceSlot<T, OwnItem>>, LaterRow>>;
 pub(crate) struct RowsOfGroup;
 
 impl<T: Numbered> SlotRule<Vec<OnceSlot<Vec<OnceSlot<T, OwnItem>>, LaterRow>>> for RowsOfGroup {
-    ghost holds = { λ tag group. From (2 ^ first tag) group.items };
+    ghost holds = { λ tag group. From (others tag) (2 ^ first tag) group.items };
 }
 
-struct Itself;
-
-impl Names<usize> for Itself {
-    ghost numbers = { λ n. n ∷ [] };
+// A place, and the names of the table.
+#[derive(Drop)]
+struct Placed {
+    place: usize,
+    names: Tag,
 }
 
-/// So many empty slots, which have the places from this one on. An error comes where memory is
-/// wanting.
+struct PlaceFirst;
+
+impl Names<Placed> for PlaceFirst {
+    ghost numbers = { λ x. x.place ∷ x.names.numbers };
+}
+
+struct Same;
+
+impl Names<Tag> for Same {
+    ghost numbers = { λ tag. tag.numbers };
+}
+
+/// A copy of the tag.
+pub(crate) fn copy_of(names: &Tag) -> Tag
+    ensures { result.numbers ≡ names.now.numbers }
+{
+    Tag::of::<Tag, Same>(names)
+}
+
+// The tag of a place.
+fn tag_of(place: usize, names: &Tag) -> Tag
+    ensures { result.numbers ≡ place ∷ names.now.numbers }
+{
+    let names = copy_of(names);
+    Tag::of::<Placed, PlaceFirst>(&Placed { place, names })
+}
+
+/// So many empty slots, which have the places from this one on, of the table of these names. An
+/// error comes where memory is wanting.
 pub(crate) fn new_slots<T: Drop, Q: SlotRule<T>>(
     alloc: Global,
+    names: &Tag,
     place: usize,
     count: usize,
 ) -> Result<Vec<OnceSlot<T, Q>>, AllocError>
     requires fit { place + count < 2 ^ 64 }
     ensures count { IfOk result (λ slots. length slots.items ≡ count) }
-    ensures places { IfOk result (λ slots. From place slots.items) }
+    ensures places { IfOk result (λ slots. From names.now.numbers place slots.items) }
 {
     let mut slots = Vec::with_capacity(alloc, count)?;
     let mut made = 0;
     while made < count {
-        slots.push_reserved(OnceSlot::new(&Tag::of::<usize, Itself>(&(place + made))));
+        slots.push_reserved(OnceSlot::new(&tag_of(place + made, names)));
         made += 1;
     }
     Ok(slots)

@@ -1,12 +1,15 @@
 //! What a table that threads share needs of the place where its items lie.
-ghost use Rattle.std.specs.Prelude.{◌≡◌, ℕ, IfNone, IfSome};
+ghost use Rattle.std.specs.Prelude.{◌≡◌, ℕ, List, IfNone, IfSome};
 ghost use Rattle.moka_shelf.specs.Looks.{Rises};
 
 use std::alloc::AllocError;
 
-/// An item that has a number, which only contracts see.
+/// An item that has a number, in a table that has names. Only contracts see them.
 pub trait Numbered {
     ghost number: { Self → ℕ };
+
+    /// The names of the item's table.
+    ghost names: { Self → List ℕ };
 }
 
 /// A place where threads set items and are shown them, by their numbers, without a lock. An item
@@ -24,6 +27,9 @@ pub trait Shelf<T: Numbered> {
     /// The number of the last of them.
     ghost last: { Self.Look → ℕ };
 
+    /// The names of the table whose items lie here.
+    ghost owner: { Self → List ℕ };
+
     /// Makes a look from which nothing was hidden yet. It takes no memory.
     fn fresh_look(&self) -> Self::Look
         ensures { hidden result ≡ 0 };
@@ -31,16 +37,18 @@ pub trait Shelf<T: Numbered> {
     /// Sets the item under its number. Where an item was set under that number before, that one
     /// stays, and this one is dropped. It never waits; an error comes where memory is wanting, or
     /// while another thread is about to store the room for the number. Precondition: the number is
-    /// the item's own.
+    /// the item's own, and the item is of the shelf's table.
     fn set(&self, number: u64, item: T) -> Result<(), AllocError>
     where
         T: Drop,
-        requires own { T.number item ≡ number };
+        requires own { T.number item ≡ number }
+        requires names { T.names item ≡ owner self.now };
 
     /// Shows the item of this number; or answers None, and counts it as hidden from the look. It
     /// takes no memory, and never waits.
     fn shown<'a>(&'a self, look: &mut Self::Look, number: u64) -> Option<&'a T>
         ensures shows { IfSome result (λ item. T.number item.now ≡ number) }
+        ensures names { IfSome result (λ item. T.names item.now ≡ owner self.now) }
         ensures stays { IfSome result (λ item. look.new ≡ look.old) }
         ensures hides { IfNone result (Rises (hidden look.old) (hidden look.new)
             × (last look.new ≡ number)) };
