@@ -7,7 +7,7 @@ use Rattle.moka_hist.specs.State.{Call, DeskPart, World}
 use Rattle.moka_hist.specs.Plan.{Item, Aim, Change, Removal, look, loaded, load_rest, end_load, put, take_out, under_lock, is_disabled, walks}
 use Rattle.moka_hist.specs.Plan as plan
 use Rattle.moka_hist.specs.Next.{Next, goes, stays, waits, gives, asks, answers}
-use Rattle.moka_hist.specs.Visits.{claimed, claimed_alone, unlocked, is_running, is_unlocked_for, locked_by, settlement_for, is_free_for, finds, claim_of, has_room, is_seen}
+use Rattle.moka_hist.specs.Visits.{claimed, claimed_alone, unlocked, is_running, is_unlocked_for, locked_by, settlement_for, is_free_for, finds, claim_of, has_room, is_seen, registering}
 use Rattle.moka_hist.specs.Posting.{once_ended, after_drain, after_post, after_turn, after_apply}
 use Rattle.moka_hist.specs.Looking.{hits, misses, keeps, kept_rest, chosen_or_not, finds_pair, after_get, after_judge, after_holds}
 use Rattle.moka_hist.specs.Loading.{retries, owner_rest, after_own, after_read, after_told}
@@ -16,6 +16,7 @@ use Rattle.moka_hist.specs.Entries.{unchanged}
 use Rattle.moka_hist.specs.Conditions.{HasUnsettled}
 use Rattle.moka_hist.specs.Computing.{compute_rest, report_rest, end_compute, put_told, after_own_key, after_own_alone, after_read_key, after_told_op}
 use Rattle.moka_hist.specs.Listening.{after_lock, after_hearing, after_notice}
+use Rattle.moka_hist.specs.Invalidating.{registering_answer}
 use Rattle.moka_hist.specs.Walking.{after_list, after_find, after_scan}
 use Rattle.moka_hist.specs.Step.{Gets, May, access_of, access_for, replace_of, next_of, after_table, after_visit, going_as}
 use Rattle.moka_hist.specs.declared.records.Mode.{Mode}
@@ -639,6 +640,7 @@ module _ {K V E : Type 0} where
         (passes old new c young rest (leaves _ (ap (λ v. v.desk) g.1) (record { owed = refl; log = refl; size = refl }) h.within h.raises))
     on_item plan.Invalidate_all rest (got.Desk f) e m g h silent = rw g.0
         (passes old new c young rest (leaves _ (ap (λ v. v.desk) g.1) (record { owed = refl; log = refl; size = refl }) h.within h.raises))
+    on_item (plan.Register test) rest (got.Desk f) e m g h silent = rw g.0 (never new _ (answers (registering_answer (registering w.desk))) (λ d. cc))
     on_item (plan.Holds key stamp cause there stored) rest (got.Desk f) e m g h silent = rw g.0
         (holds_falls old new c young key stamp cause _ (leaves w.desk (ap (λ v. v.desk) g.1) (same_lists w.desk) h.within h.raises))
     on_item (plan.Notice key stored cause upsert) rest (got.Desk f) e m g h silent = rw g.0

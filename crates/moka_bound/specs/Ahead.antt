@@ -134,6 +134,7 @@ module _ {K V E : Type 0} where
       1 + steps_of owed most aborts false most true rest
   steps_of owed most aborts room left ended (plan.Invalidate_all ∷ rest) =
       1 + steps_of owed most aborts false most true rest
+  steps_of owed most aborts room left ended (plan.Register test ∷ rest) = 1
   steps_of owed most aborts room left ended (plan.List_keys part ∷ rest) =
       left + 1 + steps_of owed most aborts false most true rest
   steps_of owed most aborts room left ended (plan.Find key ∷ rest) =

@@ -25,6 +25,9 @@ value_in answer.RetriesExhausted = None
 value_in answer.Evicted = None
 value_in answer.Kept = None
 value_in answer.End = None
+value_in (answer.Id id) = None
+value_in answer.ClosuresDisabled = None
+value_in answer.NoId = None
 
 module _ {A K V E : Type 0} where
   -- the state may be polled: it has not answered

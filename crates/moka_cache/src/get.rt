@@ -88,6 +88,6 @@ pub(crate) fn value_in<K: Drop, V: Drop, E: Drop>(answer: Answer<K, V, E>) -> Op
         Answer::RetriesExhausted => None,
         Answer::Evicted => None,
         Answer::Kept => None,
-        Answer::End => None,
+        Answer::End | Answer::Id(_) | Answer::ClosuresDisabled | Answer::NoId => None,
     }
 }

@@ -53,8 +53,9 @@ fn events_of(alloc: Global, text: &str) -> Result<String, AllocError> {
     format!(in alloc; "{:?}", schedule.events.as_slice())
 }
 
-/// The options of a text, as they are told: its log, its capacity, how many nanoseconds a record
-/// lives after a write and after an access, and whether it has a listener.
+/// The options of a text, as they are told: its log, its capacity, the seed of its ids, how many
+/// nanoseconds a record lives after a write and after an access, and whether it has a listener and
+/// takes predicates.
 fn options_of(alloc: Global, text: &str) -> Result<String, AllocError> {
     let schedule = schedule_of(alloc, text)?;
     let log = schedule.log;
@@ -63,8 +64,11 @@ fn options_of(alloc: Global, text: &str) -> Result<String, AllocError> {
         time_to_live,
         time_to_idle,
         listener,
+        closures,
+        seed,
     } = schedule.settings;
-    format!(in alloc; "{log} {max_capacity:?} {time_to_live:?} {time_to_idle:?} {listener}")
+    let numbers = format!(in alloc; "{max_capacity:?} {seed:?} {time_to_live:?} {time_to_idle:?}")?;
+    format!(in alloc; "{log} {numbers} {listener} {closures}")
 }
 
 /// Whether the row is a line, and the event that it is read as.
@@ -99,7 +103,7 @@ const BAD: [(u64, &str); 3] = [
         cache  listener\n|cache Listener\n|cache listener \n|cache listener=1\n|\
         cache listener listener\n|cache listener log=8\n|cache log=8  listener\n|\
         cache log=8 listener x\n|cache log= listener\n|cache log=8listener\n|\
-        cache closures\n|cache listener closures\n|cache log=8 cap=1\n|\
+        cache log=8 cap=1\n|\
         cache listener cap=1\n|cache cap=\n|cache cap=01\n|\
         cache cap=18446744073709551616\n|cache cap=1 cap=1\n|\
         cache tti=5 ttl=5\n|cache listener ttl=5\n|cache listener tti=5\n|\
@@ -108,7 +112,15 @@ const BAD: [(u64, &str); 3] = [
         cache ttl=5 log=8\n|cache tti=5 log=8\n|cache ttl=5 cap=1\n|\
         cache ttl=5 ttl=5\n|cache tti=5 tti=5\n|cache ttl=5 tti=5 ttl=5\n|\
         cache ttl=5  tti=5\n|cache ttl=5tti=5\n|cache ttl=5 \n|cache tti=5 \n|\
-        cache ttl=-1\n|cache ttl=1s\n|cache TTL=5\n|cache seed=1\n",
+        cache ttl=-1\n|cache ttl=1s\n|cache TTL=5\n|\
+        cache seed\n|cache seed=\n|cache seed=01\n|cache seed=-1\n|cache Seed=1\n|\
+        cache seed=18446744073709551616\n|cache seed=1 seed=1\n|cache seed=1 cap=1\n|\
+        cache seed=1 log=8\n|cache ttl=1 seed=2\n|cache tti=1 seed=2\n|\
+        cache listener seed=1\n|cache closures seed=1\n|cache seed=1 \n|\
+        cache closures listener\n|cache closures ttl=1\n|cache closures tti=1\n|\
+        cache closures log=8\n|cache closures cap=1\n|cache closures closures\n|\
+        cache closures=1\n|cache closures \n|cache  closures\n|cache Closures\n|\
+        cache closure\n|cacheclosures\n|cache listenerclosures\n",
     ),
     (
         2,
@@ -122,6 +134,11 @@ const BAD: [(u64, &str); 3] = [
         cache\nstart invalidate_all 1\n|cache\nstart invalidate_all \n|\
         cache\nstart  invalidate_all\n|cache\nstart invalidate_al\n|\
         cache\nstart invalidate_alls\n|cache\nstart invalidate\n|\
+        cache\nstart invalidate_if\n|cache\nstart invalidate_if \n|\
+        cache\nstart invalidate_if 2 3\n|cache\nstart invalidate_if 2 \n|\
+        cache\nstart invalidate_if  2\n|cache\nstart invalidate_if 02\n|\
+        cache\nstart invalidate_if -2\n|cache\nstart invalidate_ifs 2\n|\
+        cache\nstart invalidate_if 18446744073709551616\n|\
         cache\nstart iter 1\n|cache\nstart iter \n|cache\nstart iter_\n|\
         cache\nstart remove 4294967296\n|cache\nstart evict 1\n|cache\nstart evict 1 1\n|\
         cache\nstart evict 1 1 size\n|cache\nstart evict 1 1 Size \n|\
@@ -177,30 +194,42 @@ fn has(alloc: Global, text: &str, events: &str, options: &str) -> Result<bool, A
 
 #[test]
 fn the_last_line_may_lack_its_end(rt: HostRuntime) -> Result<(), Fail> {
-    let (events, options) = ("[Step { call: 1 }]", "1 None None None false");
+    let (events, options) = ("[Step { call: 1 }]", "1 None None None None false false");
     assert!(rt; has(rt.alloc(), "cache log=1\nstep 1\n", events, options)?);
     assert!(rt; has(rt.alloc(), "cache log=1\nstep 1", events, options)?);
     Ok(())
 }
 
 /// First lines, each with the options that it is read as.
-const OPTIONS: &str = "cache => 384 None None None false\n\
-    cache log=65536 => 65536 None None None false\n\
-    cache listener => 384 None None None true\n\
-    cache log=1 listener => 1 None None None true\n\
-    cache cap=0 => 384 Some(0) None None false\n\
-    cache cap=18446744073709551615 log=8 => 8 Some(18446744073709551615) None None false\n\
-    cache cap=1 listener => 384 Some(1) None None true\n\
-    cache cap=1 log=8 listener => 8 Some(1) None None true\n\
-    cache ttl=0 => 384 None Some(0) None false\n\
-    cache tti=0 => 384 None None Some(0) false\n\
-    cache ttl=18446744073709551615 => 384 None Some(18446744073709551615) None false\n\
-    cache tti=18446744073709551615 => 384 None None Some(18446744073709551615) false\n\
-    cache ttl=10 tti=7 => 384 None Some(10) Some(7) false\n\
-    cache log=8 ttl=10 => 8 None Some(10) None false\n\
-    cache cap=3 tti=7 listener => 384 Some(3) None Some(7) true\n\
-    cache ttl=10 listener => 384 None Some(10) None true\n\
-    cache cap=3 log=8 ttl=10 tti=7 listener => 8 Some(3) Some(10) Some(7) true\n";
+const OPTIONS: &str = "cache => 384 None None None None false false\n\
+    cache log=65536 => 65536 None None None None false false\n\
+    cache listener => 384 None None None None true false\n\
+    cache log=1 listener => 1 None None None None true false\n\
+    cache cap=0 => 384 Some(0) None None None false false\n\
+    cache cap=18446744073709551615 log=8 => \
+    8 Some(18446744073709551615) None None None false false\n\
+    cache cap=1 listener => 384 Some(1) None None None true false\n\
+    cache cap=1 log=8 listener => 8 Some(1) None None None true false\n\
+    cache ttl=0 => 384 None None Some(0) None false false\n\
+    cache tti=0 => 384 None None None Some(0) false false\n\
+    cache ttl=18446744073709551615 => 384 None None Some(18446744073709551615) None false false\n\
+    cache tti=18446744073709551615 => 384 None None None Some(18446744073709551615) false false\n\
+    cache ttl=10 tti=7 => 384 None None Some(10) Some(7) false false\n\
+    cache log=8 ttl=10 => 8 None None Some(10) None false false\n\
+    cache cap=3 tti=7 listener => 384 Some(3) None None Some(7) true false\n\
+    cache ttl=10 listener => 384 None None Some(10) None true false\n\
+    cache cap=3 log=8 ttl=10 tti=7 listener => 8 Some(3) None Some(10) Some(7) true false\n\
+    cache seed=0 => 384 None Some(0) None None false false\n\
+    cache seed=18446744073709551615 => 384 None Some(18446744073709551615) None None false false\n\
+    cache cap=3 seed=7 => 384 Some(3) Some(7) None None false false\n\
+    cache log=8 seed=7 tti=5 => 8 None Some(7) None Some(5) false false\n\
+    cache seed=7 ttl=10 => 384 None Some(7) Some(10) None false false\n\
+    cache closures => 384 None None None None false true\n\
+    cache listener closures => 384 None None None None true true\n\
+    cache log=8 closures => 8 None None None None false true\n\
+    cache seed=1 closures => 384 None Some(1) None None false true\n\
+    cache cap=3 log=8 seed=1 ttl=10 tti=7 listener closures => \
+    8 Some(3) Some(1) Some(10) Some(7) true true\n";
 
 /// The first of these lines that has others.
 fn unlike_options(alloc: Global) -> Wrong {
@@ -233,7 +262,14 @@ fn a_whole_text_is_read(rt: HostRuntime) -> Result<(), Fail> {
         Step { call: 1 }, Poll { call: 2 }, Tell { call: 3, answer: Value(9) }, \
         Tell { call: 3, answer: Done }, Tell { call: 4, answer: Off }, \
         Drop { call: 18446744073709551615 }]";
-    assert!(rt; has(rt.alloc(), text, want, "384 None None None false")?);
+    assert!(rt;
+        has(
+            rt.alloc(),
+            text,
+            want,
+            "384 None None None None false false"
+        )?
+    );
     Ok(())
 }
 
@@ -250,6 +286,9 @@ const FORMS: [&str; 4] = [
         Start { start: Evict { key: 3, stamp: 1, cause: Replaced } }\n\
         start evict 3 2 Size => Start { start: Evict { key: 3, stamp: 2, cause: Size } }\n\
         start invalidate_all => Start { start: InvalidateAll }\n\
+        start invalidate_if 0 => Start { start: InvalidateIf { test: 0 } }\n\
+        start invalidate_if 18446744073709551615 => \
+        Start { start: InvalidateIf { test: 18446744073709551615 } }\n\
         start iter => Start { start: Iter }\n",
     // Loads.
     "start get_with 0 => Start { start: GetWith { key: 0, replace: None } }\n\

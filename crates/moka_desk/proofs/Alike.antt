@@ -53,3 +53,12 @@ module _ (rules : Rules) (t u : Times) (alike : AreAlike rules t u) where
 
   pub visible_alike : (hit : Bool) → is_visible rules t hit ≡ is_visible rules u hit
   visible_alike hit = λ i. not ((live i || idle i) || hidden i || hit)
+
+-- a record that a predicate hits isn't visible
+pub hit_hides : (rules : Rules) (times : Times) → is_visible rules times true ≡ false
+hit_hides rules times = by (is_expired rules times) (is_hidden times) where
+  by : (a b : Bool) → not (a || b || true) ≡ false
+  by true true = refl
+  by true false = refl
+  by false true = refl
+  by false false = refl

@@ -29,6 +29,7 @@ module _ {K V E : Type 0} {same : PartialEq.Ghosts K} {hash : Hash.Ghosts K} (eq
       rules = h.rules;
       clock = h.clock;
       valid_after = h.valid_after;
+      predicates = h.predicates;
       accessed = h.accessed;
       turn = h.turn;
       published = h.published;
@@ -63,6 +64,7 @@ module _ {K V E : Type 0} {same : PartialEq.Ghosts K} {hash : Hash.Ghosts K} (eq
       rules = h.rules;
       clock = h.clock;
       valid_after = h.valid_after;
+      predicates = h.predicates;
       accessed = h.accessed;
       turn = h.turn;
       published = h.published;

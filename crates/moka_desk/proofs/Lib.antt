@@ -22,3 +22,6 @@ pub mod Forgetting
 pub mod Recalling
 pub mod Sounding
 pub mod Allowing
+pub mod Timely
+pub mod FreeIds
+pub mod Registrations

@@ -5,6 +5,7 @@ pub mod Readers
 pub mod Loads
 pub mod Locks
 pub mod Notices
+pub mod Predicates
 pub mod Held
 pub mod Lines
 pub mod Asks

@@ -72,3 +72,4 @@ module _ {K V E : Type 0} where
   Meets w call need.ApplyOne = w.turn ≡ Some call
   Meets w call need.EndTurn = w.turn ≡ Some call
   Meets w call need.InvalidateAll = Unit {0}
+  Meets w call need.Register = Unit {0}

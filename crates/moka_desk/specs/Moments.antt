@@ -19,6 +19,7 @@ pub record AreAlike (rules : Rules) (t u : Times) : Type 0 where
   pub accessed : reads_moments rules ≡ true → t.accessed ≡ u.accessed
   pub since : (t.modified ≤ t.accessed) × (u.modified ≤ u.accessed)
 
--- the record of this stamp, last written at the moment, is visible by the clock
-abbrev pub is_shown : {K V E : Type 0} → DeskPart K V E → ℕ → ℕ → Bool
-is_shown w stamp modified = is_visible w.rules (times_at w stamp modified) false
+-- the record of this stamp, last written at the moment, is visible by the clock, where a predicate
+-- hits it or none does
+abbrev pub is_shown : {K V E : Type 0} → DeskPart K V E → Bool → ℕ → ℕ → Bool
+is_shown w hit stamp modified = is_visible w.rules (times_at w stamp modified) hit

@@ -15,6 +15,7 @@ use Rattle.moka_desk.specs.Loads.{load_part, LoadsAre}
 use Rattle.moka_desk.specs.Locks.{lock_part, LocksAre}
 use Rattle.moka_desk.specs.Notices.{notice_part, NoticesAre}
 use Rattle.moka_desk.specs.Asks.{ask_part, AsksAre}
+use Rattle.moka_desk.specs.Predicates.{predicate_part, PredicatesAre}
 use Rattle.moka_desk.specs.declared.state.Desk.{Desk}
 
 -- The desk has what the reference's desk has, part by part. Of the past it has with a history all,
@@ -24,6 +25,7 @@ pub record StandsFor {K V E : Type 0} {same : PartialEq.Ghosts K} {hash : Hash.G
   pub rules : desk.rules ≡ w.rules
   pub clock : desk.clock ≡ w.clock
   pub valid_after : desk.valid_after ≡ w.valid_after
+  pub predicates : PredicatesAre desk.predicates (predicate_part w)
   pub accessed : keeps_moments desk ≡ true → (n : ℕ) → get nat_eq desk.accessed n ≡ w.accessed n
   pub turn : desk.turn ≡ w.turn
   pub published : desk.published ≡ w.published

@@ -65,6 +65,7 @@ impl<K: Eq + Hash + Exact, V: Drop, E: Drop> Desk<K, V, E> {
             Need::ApplyOne => self.has_turn(call),
             Need::EndTurn => self.has_turn(call),
             Need::InvalidateAll => true,
+            Need::Register => true,
         }
     }
 

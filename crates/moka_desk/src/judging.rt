@@ -25,28 +25,34 @@ impl<K: Eq + Hash + Exact, V: Drop, E: Drop> Desk<K, V, E> {
     ghost use Rattle.moka_desk.specs.WakeList.{NobodyWakes};
 
     /// Judges whether a call sees the record of this stamp, last written at the moment `modified`,
-    /// in nanoseconds. It doesn't where its replace test holds on the record (`replaced`), nor where
-    /// the record isn't visible by the clock. The access moment of a record that is seen is raised
-    /// to the clock, where moments are kept; only that may want memory. Of one that isn't seen
-    /// nothing changes.
-    pub fn judge(&mut self, replaced: bool, stamp: u64, modified: u64) -> Result<bool, AllocError>
+    /// in nanoseconds. It doesn't where a predicate hits the record (`hit`), nor where its replace
+    /// test holds on that (`replaced`), nor where the record isn't visible by the clock. The access
+    /// moment of a record that is seen is raised to the clock, where moments are kept; only that may
+    /// want memory. Of one that isn't seen nothing changes.
+    pub fn judge(
+        &mut self,
+        hit: bool,
+        replaced: bool,
+        stamp: u64,
+        modified: u64,
+    ) -> Result<bool, AllocError>
         ensures finds { IfOk result (λ seen. (w : DeskPart K V E) → StandsFor K.eq self.old w
-            → seen ≡ (not replaced && is_shown w stamp modified)) }
+            → seen ≡ (not replaced && is_shown w hit stamp modified)) }
         ensures makes { OnOk result (Becomes K.eq self.old
-            (λ w. judged w stamp modified (not replaced && is_shown w stamp modified)) self.new) }
+            (λ w. judged w stamp modified (not replaced && is_shown w hit stamp modified)) self.new) }
         ensures err { OnErr result (Stays K.eq self.old self.new) }
         ensures needs { OnErr result ((w : DeskPart K V E) → StandsFor K.eq self.old w
-            → (not replaced && is_shown w stamp modified) ≡ true) }
+            → (not replaced && is_shown w hit stamp modified) ≡ true) }
         ensures needs_moments { OnErr result (keeps_moments self.old ≡ true) }
         ensures unkept { keeps_moments self.old ≡ false → self.new ≡ self.old }
         ensures quiet { NobodyMoves self.old self.new }
         ensures wakes { NobodyWakes self.old self.new }
         ensures misses { OnOk result (MissWith K.eq self.old
-            (λ w. judged w stamp modified (not replaced && is_shown w stamp modified)) self.new) }
+            (λ w. judged w stamp modified (not replaced && is_shown w hit stamp modified)) self.new) }
         ensures misses_still { OnErr result (MissWith K.eq self.old (λ w. w) self.new) }
         ensures kept { KeepsAsBefore self.old self.new }
     {
-        if replaced || (self.may_hide() && !self.scan(stamp, modified)) {
+        if hit || replaced || (self.may_hide() && !self.scan(false, stamp, modified)) {
             return Ok(false);
         }
         self.see(stamp, modified)?;
@@ -58,7 +64,7 @@ impl<K: Eq + Hash + Exact, V: Drop, E: Drop> Desk<K, V, E> {
     #[inline(always)]
     fn may_hide(&self) -> bool
         ensures hides_none { OnFalse result ((w : DeskPart K V E) (stamp modified : ℕ)
-            → StandsFor K.eq self.now w → is_shown w stamp modified ≡ true) }
+            → StandsFor K.eq self.now w → is_shown w false stamp modified ≡ true) }
     {
         self.rules.time_to_live.is_some()
             || self.rules.time_to_idle.is_some()
@@ -103,13 +109,14 @@ impl<K: Eq + Hash + Exact, V: Drop, E: Drop> Desk<K, V, E> {
     }
 
     /// Answers whether the record of this stamp, last written at the moment `modified`, is visible
-    /// by the clock. It changes nothing: no access moment is raised.
+    /// by the clock, where a predicate hits it or none does. It changes nothing: no access moment is
+    /// raised.
     #[inline(never)]
-    pub fn scan(&self, stamp: u64, modified: u64) -> bool
+    pub fn scan(&self, hit: bool, stamp: u64, modified: u64) -> bool
         ensures { (w : DeskPart K V E) → StandsFor K.eq self.now w
-            → result ≡ is_shown w stamp modified }
+            → result ≡ is_shown w hit stamp modified }
     {
-        visible(&self.rules, &self.times(stamp, modified), false)
+        visible(&self.rules, &self.times(stamp, modified), hit)
     }
 
     /// Answers why the record of this stamp, last written at the moment `modified`, leaves now: for
@@ -128,12 +135,13 @@ impl<K: Eq + Hash + Exact, V: Drop, E: Drop> Desk<K, V, E> {
     /// Judges by the clock whether the record that was chosen to leave for `cause` still has to.
     /// The record has this stamp, and was last written at the moment `modified`, in nanoseconds.
     /// `Size` holds where a capacity is set, `Explicit` where all was invalidated since the record
-    /// was written, `Expired` past its time to live or to idle, and `Replaced` never.
-    pub fn holds(&self, stamp: u64, modified: u64, cause: Cause) -> bool
+    /// was written, or a predicate hits it (`hit`), `Expired` past its time to live or to idle, and
+    /// `Replaced` never.
+    pub fn holds(&self, hit: bool, stamp: u64, modified: u64, cause: Cause) -> bool
         ensures { (w : DeskPart K V E) → StandsFor K.eq self.now w
-            → result ≡ chosen_holds w.rules (times_at w stamp modified) false cause }
+            → result ≡ chosen_holds w.rules (times_at w stamp modified) hit cause }
     {
-        chosen_holds(&self.rules, &self.times(stamp, modified), false, cause)
+        chosen_holds(&self.rules, &self.times(stamp, modified), hit, cause)
     }
 
     /// Gives the times of the record of this stamp, last written at the moment `modified`: those by

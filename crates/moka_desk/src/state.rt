@@ -7,6 +7,7 @@ use crate::asks::Asks;
 use crate::loads::Loads;
 use crate::locks::Locks;
 use crate::notices::Notices;
+use crate::predicates::Predicates;
 use crate::waits::Waits;
 use crate::writes::Writes;
 use moka_hist::{Notice, Owed, Rules, Write};
@@ -24,6 +25,7 @@ pub struct Desk<K: Eq + Hash, V, E> {
     pub(crate) rules: Rules,
     pub(crate) clock: u64,
     pub(crate) valid_after: Option<u64>,
+    pub(crate) predicates: Predicates,
     pub(crate) moments: bool,
     pub(crate) accessed: HashMap<u64, u64>,
     pub(crate) accessed_places: usize,
@@ -39,7 +41,7 @@ pub struct Desk<K: Eq + Hash, V, E> {
 }
 
 impl<K: Eq + Hash + Exact, V: Drop, E: Drop> Desk<K, V, E> {
-    ghost use Rattle.moka_hist.specs.State.{DeskPart, fresh_desk};
+    ghost use Rattle.moka_hist.specs.State.{DeskPart, Handed, fresh_desk};
     ghost use Rattle.moka_hist.specs.Run.{last_call};
     ghost use Rattle.moka_hist.specs.Visits.{is_running};
     ghost use Rattle.moka_desk.specs.StandsFor.{StandsFor, Becomes};
@@ -51,8 +53,8 @@ impl<K: Eq + Hash + Exact, V: Drop, E: Drop> Desk<K, V, E> {
     /// Makes a desk by these rules, where nothing has happened, with a log of this many writes. It
     /// keeps a history: the applied writes, each notice, and when each record was seen.
     pub fn new(alloc: Global, rules: Rules, log: usize) -> Result<Self, AllocError>
-        ensures stands { IfOk result (λ desk. (tests : ℕ → K → V → Bool)
-            → StandsFor K.eq desk (fresh_desk K V E rules log tests)) }
+        ensures stands { IfOk result (λ desk. (handed : Handed K V)
+            → StandsFor K.eq desk (fresh_desk K V E rules log handed)) }
         ensures history { IfOk result (λ desk. keeps_history desk ≡ true) }
         ensures misses { IfOk result (λ desk. (w : DeskPart K V E) → ListedMiss desk w) }
         ensures unwoken { IfOk result (λ desk. (call : ℕ) → is_on (wake_list desk) call ≡ false) }
@@ -67,8 +69,8 @@ impl<K: Eq + Hash + Exact, V: Drop, E: Drop> Desk<K, V, E> {
         log: usize,
         last: u64,
     ) -> Result<Self, AllocError>
-        ensures stands { IfOk result (λ desk. (tests : ℕ → K → V → Bool)
-            → StandsFor K.eq desk (record (fresh_desk K V E rules log tests) { last = last })) }
+        ensures stands { IfOk result (λ desk. (handed : Handed K V)
+            → StandsFor K.eq desk (record (fresh_desk K V E rules log handed) { last = last })) }
         ensures history { IfOk result (λ desk. keeps_history desk ≡ true) }
         ensures misses { IfOk result (λ desk. (w : DeskPart K V E) → ListedMiss desk w) }
         ensures unwoken { IfOk result (λ desk. (call : ℕ) → is_on (wake_list desk) call ≡ false) }
@@ -84,8 +86,8 @@ impl<K: Eq + Hash + Exact, V: Drop, E: Drop> Desk<K, V, E> {
         log: usize,
         last: u64,
     ) -> Result<Self, AllocError>
-        ensures stands { IfOk result (λ desk. (tests : ℕ → K → V → Bool)
-            → StandsFor K.eq desk (record (fresh_desk K V E rules log tests) { last = last })) }
+        ensures stands { IfOk result (λ desk. (handed : Handed K V)
+            → StandsFor K.eq desk (record (fresh_desk K V E rules log handed) { last = last })) }
         ensures history { IfOk result (λ desk. keeps_history desk ≡ false) }
         ensures kind { IfOk result (λ desk. KeepsAll false desk) }
         ensures misses { IfOk result (λ desk. (w : DeskPart K V E) → ListedMiss desk w) }
@@ -103,8 +105,8 @@ impl<K: Eq + Hash + Exact, V: Drop, E: Drop> Desk<K, V, E> {
         last: u64,
         history: bool,
     ) -> Result<Self, AllocError>
-        ensures stands { IfOk result (λ desk. (tests : ℕ → K → V → Bool)
-            → StandsFor K.eq desk (record (fresh_desk K V E rules log tests) { last = last })) }
+        ensures stands { IfOk result (λ desk. (handed : Handed K V)
+            → StandsFor K.eq desk (record (fresh_desk K V E rules log handed) { last = last })) }
         ensures history { IfOk result (λ desk. keeps_history desk ≡ history) }
         ensures kind { IfOk result (λ desk. KeepsAll history desk) }
         ensures misses { IfOk result (λ desk. (w : DeskPart K V E) → ListedMiss desk w) }
@@ -114,6 +116,7 @@ impl<K: Eq + Hash + Exact, V: Drop, E: Drop> Desk<K, V, E> {
             rules,
             clock: 0,
             valid_after: None,
+            predicates: Predicates::new(alloc),
             moments: history,
             accessed: HashMap::new(alloc),
             accessed_places: 0,

@@ -1,3 +1,4 @@
 pub mod EmptyCache
 pub mod Fitting
 pub mod Rests
+pub mod Turns

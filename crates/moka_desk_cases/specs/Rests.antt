@@ -2,15 +2,23 @@
 use Rattle.std.specs.Prelude.{ℕ, false, List, [], Option, None, nat_eq}
 use Rattle.std.specs.declared.cmp.PartialEq as PartialEq
 use Rattle.std.specs.declared.hash.Hash as Hash
-use Rattle.moka_hist.specs.State.{DeskPart, fresh_desk}
+use Rattle.moka_hist.specs.State.{DeskPart, Handed, fresh_desk}
 use Rattle.moka_hist.specs.declared.rules.Rules.{Rules}
 use Rattle.moka_hist.specs.declared.writes.Write.{Write}
 use Rattle.moka_desk.specs.StandsFor.{StandsFor}
 use Rattle.moka_desk.specs.declared.state.Desk.{Desk}
 
+-- no test and no predicate holds, and the ids are the numbers from 0
+abbrev pub none_handed : {K V : Type 0} → Handed K V
+none_handed = record {
+  tests = λ test key value. false;
+  predicates = λ test key value. false;
+  ids = λ number. number;
+}
+
 -- the state by these rules, with a log of four writes, where nothing has happened
 abbrev pub untouched : Rules → DeskPart ℕ ℕ ℕ
-untouched rules = fresh_desk ℕ ℕ ℕ rules 4 (λ test key value. false)
+untouched rules = fresh_desk ℕ ℕ ℕ rules 4 none_handed
 
 -- nothing has happened on the desk
 abbrev pub IsNew : {same : PartialEq.Ghosts ℕ} {hash : Hash.Ghosts ℕ} →

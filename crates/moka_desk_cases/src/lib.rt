@@ -14,6 +14,8 @@ mod notices;
 #[cfg(test)]
 mod orders;
 #[cfg(test)]
+mod predicates;
+#[cfg(test)]
 mod times;
 #[cfg(test)]
 mod waking;

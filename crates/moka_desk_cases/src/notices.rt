@@ -75,7 +75,7 @@ fn a_notice_tells_the_cause_of_a_removal(rt: HostRuntime) -> Result<(), Fail> {
 /// Whether a record that was chosen for this cause leaves, where this is the capacity.
 fn leaves(alloc: Global, capacity: Option<u64>, cause: Cause) -> Result<bool, AllocError> {
     let desk = new_desk(alloc, rules_with(capacity))?;
-    let holds = desk.holds(1, 0, cause);
+    let holds = desk.holds(false, 1, 0, cause);
     drop(desk);
     Ok(holds)
 }
@@ -96,9 +96,9 @@ fn a_chosen_record_leaves_for_its_size_where_a_capacity_is_set(
 /// Whether a record of the moment 3, which lives for ten nanoseconds, leaves at 13 and not at 12.
 fn leaves_in_time(desk: &mut Desk<u32, u32, u32>) -> bool {
     let first = desk.at(12);
-    let early = desk.holds(1, 3, Cause::Expired);
+    let early = desk.holds(false, 1, 3, Cause::Expired);
     let then = desk.at(13);
-    let late = desk.holds(1, 3, Cause::Expired);
+    let late = desk.holds(false, 1, 3, Cause::Expired);
     first && !early && then && late
 }
 

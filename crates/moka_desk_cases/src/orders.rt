@@ -195,11 +195,11 @@ fn forgets_what_left(desk: &mut Desk<u32, u32, u32>) -> Result<bool, AllocError>
     let _ = published_after(desk, made)?;
     let _ = published_after(desk, gone)?;
     let _ = desk.at(8);
-    let seen = desk.judge(false, 1, 0)?;
+    let seen = desk.judge(false, false, 1, 0)?;
     let _ = desk.at(17);
-    let shown = desk.scan(1, 0);
+    let shown = desk.scan(false, 1, 0);
     desk.forget_left();
-    Ok(seen && shown && !desk.scan(1, 0))
+    Ok(seen && shown && !desk.scan(false, 1, 0))
 }
 
 #[test]

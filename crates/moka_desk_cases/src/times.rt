@@ -25,13 +25,13 @@ fn timed(live: Option<u64>, idle: Option<u64>) -> Rules {
 /// Whether a look at this moment sees the record.
 fn sees_at(desk: &mut Desk<u32, u32, u32>, moment: u64) -> Result<bool, AllocError> {
     let _ = desk.at(moment);
-    desk.judge(false, STAMP, WRITTEN)
+    desk.judge(false, false, STAMP, WRITTEN)
 }
 
 /// Whether a scan at this moment finds the record visible.
 fn scans_at(desk: &mut Desk<u32, u32, u32>, moment: u64) -> bool {
     let _ = desk.at(moment);
-    desk.scan(STAMP, WRITTEN)
+    desk.scan(false, STAMP, WRITTEN)
 }
 
 /// Whether a look finds the record, once another has looked at its moment, if that is given.
@@ -154,7 +154,7 @@ fn invalidates_at(desk: &mut Desk<u32, u32, u32>, moment: u64) {
 fn sees_invalidated(alloc: Global, moment: u64) -> Result<bool, AllocError> {
     let mut desk = new_desk(alloc, timed(None, None))?;
     invalidates_at(&mut desk, moment);
-    let seen = desk.judge(false, STAMP, WRITTEN);
+    let seen = desk.judge(false, false, STAMP, WRITTEN);
     drop(desk);
     seen
 }
@@ -171,7 +171,7 @@ fn an_invalidation_of_all_spares_its_own_moment(rt: HostRuntime) -> Result<(), F
 fn hides_what_was_seen(desk: &mut Desk<u32, u32, u32>) -> Result<bool, AllocError> {
     let first = sees_at(desk, 8)?;
     invalidates_at(desk, 8);
-    let then = desk.judge(false, STAMP, WRITTEN)?;
+    let then = desk.judge(false, false, STAMP, WRITTEN)?;
     Ok(first && !then)
 }
 
@@ -195,7 +195,7 @@ fn causes_invalidated(
     invalidates_at(&mut desk, moment);
     let replaced = desk.cause_of(STAMP, WRITTEN, None, true);
     let removed = desk.cause_of(STAMP, WRITTEN, None, false);
-    let chosen = desk.holds(STAMP, WRITTEN, Cause::Explicit);
+    let chosen = desk.holds(false, STAMP, WRITTEN, Cause::Explicit);
     drop(desk);
     Ok((replaced, removed, chosen))
 }

@@ -30,8 +30,8 @@ fn call_numbers_end_with_the_greatest(rt: HostRuntime) -> Result<(), Fail> {
 
 /// Whether a record that isn't replaced is seen, and one that is isn't.
 fn is_judged(desk: &mut Desk<u32, u32, u32>) -> Result<bool, AllocError> {
-    let kept = desk.judge(false, 1, 3)?;
-    let replaced = desk.judge(true, 1, 3)?;
+    let kept = desk.judge(false, false, 1, 3)?;
+    let replaced = desk.judge(false, true, 1, 3)?;
     Ok(kept && !replaced)
 }
 

@@ -95,6 +95,8 @@ pub data Item (K V E : Type 0) : Type 0 where
   Idle : Item K V E
   -- hide all records that were written before now
   Invalidate_all : Item K V E
+  -- register the predicate of this number
+  Register : (test : ℕ) → Item K V E
   -- list the keys of a part, look one of them up, and judge whether the record that was found is
   -- visible
   List_keys : (part : ℕ) → Item K V E
@@ -191,6 +193,7 @@ plan_of parts rules (start.Remove key) = take_out rules To_remove key
 plan_of parts rules (start.Evict key stamp cause) =
     under_lock rules.listener key (look (To_evict key stamp cause) key)
 plan_of parts rules start.InvalidateAll = Invalidate_all ∷ Reply answer.Done ∷ []
+plan_of parts rules (start.InvalidateIf test) = Register test ∷ []
 plan_of parts rules start.Iter = iter_plan (is_disabled rules) parts
 
 -- a list is to be made, a key to be looked up or a record to be judged
@@ -231,6 +234,7 @@ held_by (Write key value moment ∷ rest) = held_by rest
 held_by (Out removal key ∷ rest) = held_by rest
 held_by (Idle ∷ rest) = held_by rest
 held_by (Invalidate_all ∷ rest) = held_by rest
+held_by (Register test ∷ rest) = held_by rest
 held_by (List_keys part ∷ rest) = held_by rest
 held_by (Find key ∷ rest) = held_by rest
 held_by (Scan there found ∷ rest) = held_by rest
@@ -267,6 +271,7 @@ hearing n (Write key value moment ∷ rest) = None
 hearing n (Out removal key ∷ rest) = None
 hearing n (Idle ∷ rest) = None
 hearing n (Invalidate_all ∷ rest) = None
+hearing n (Register test ∷ rest) = None
 hearing n (List_keys part ∷ rest) = None
 hearing n (Find key ∷ rest) = None
 hearing n (Scan there found ∷ rest) = None

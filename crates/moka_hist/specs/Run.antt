@@ -1,7 +1,7 @@
 -- Runs of the reference cache on events.
 use Rattle.std.specs.Prelude.{◌<◌, ◌≤◌, ◌≡◌, ◌≢◌, ℕ, zero, suc, ◌+◌, ◌^◌, ◌-◌, ◌==◌, nat_lt, Bool, true, MatchBool, List, [], ◌∷◌, Some, MatchOption}
 use Rattle.moka_hist.specs.Finite.{put_at}
-use Rattle.moka_hist.specs.State.{Call, DeskPart, Division, State, fresh}
+use Rattle.moka_hist.specs.State.{Call, DeskPart, Division, Handed, State, fresh}
 use Rattle.moka_hist.specs.Plan.{plan_of}
 use Rattle.moka_hist.specs.Step.{Step}
 use Rattle.moka_hist.specs.Dropping.{dropped}
@@ -140,14 +140,14 @@ module _ {K V E : Type 0} where
   Any s = Unit {0}
 
   -- the state comes after some events on a fresh cache of some division of its keys, some rules and
-  -- tests, with a log of some size, at least of one write
+  -- what it was handed, with a log of some size, at least of one write
   pub record IsReached (eq : K → K → Bool) (s : State K V E) : Type 0 where
     pub division : Division K
     pub divides : Divides eq division
     pub rules : Rules
     pub size : ℕ
-    pub tests : ℕ → K → V → Bool
+    pub handed : Handed K V
     pub has_log : 0 < size
     pub events : List (Event K V E)
     pub replies : List (Reply K V E)
-    pub run : Run eq Any (fresh K V E division rules size tests) events replies s
+    pub run : Run eq Any (fresh K V E division rules size handed) events replies s

@@ -8,14 +8,14 @@ use Rattle.moka_hist.specs.declared.build_error.BuildError.TheVariants.{TimeToLi
 use Rattle.moka_hist.specs.declared.rules.Rules.{Rules}
 use Rattle.moka_hist.specs.declared.settings.Settings.{Settings}
 
--- the rules are those of the settings, no invalidation by a test among them. A duration isn't known
--- by its nanoseconds, so several rules may be.
+-- the rules are those of the settings. A duration isn't known by its nanoseconds, so several rules
+-- may be.
 pub record AreRulesOf (settings : Settings) (rules : Rules) : Type 0 where
   pub capacity : rules.max_capacity ≡ settings.max_capacity
   pub live : option_map as_nanos rules.time_to_live ≡ settings.time_to_live
   pub idle : option_map as_nanos rules.time_to_idle ≡ settings.time_to_idle
   pub listener : rules.listener ≡ settings.listener
-  pub closures : rules.closures ≡ false
+  pub closures : rules.closures ≡ settings.closures
 
 -- a time is set that is longer than a thousand years of 365 days
 abbrev pub is_too_long : Option Duration → Bool

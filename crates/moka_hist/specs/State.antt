@@ -2,6 +2,7 @@
 use Rattle.std.specs.Prelude.{ℕ, Bool, false, List, [], Option, None}
 use Rattle.moka_hist.specs.declared.loads.Load.{Load}
 use Rattle.moka_hist.specs.declared.notices.Notice.{Notice}
+use Rattle.moka_hist.specs.declared.predicates.Registered.{Registered}
 use Rattle.moka_hist.specs.declared.records.Mode.{Mode}
 use Rattle.moka_hist.specs.declared.records.Stored.{Stored}
 use Rattle.moka_hist.specs.declared.rules.Rules.{Rules}
@@ -38,15 +39,27 @@ pub record TablePart (K V : Type 0) : Type 0 where
   -- the numbers of the calls whose write changed the map, oldest first
   pub committed : List ℕ
 
+-- What a cache is handed with its rules: what the replace test of each number answers of a key and
+-- its value, what the predicate of each number answers, and the ids that are to be drawn, by number
+-- from 0.
+pub record Handed (K V : Type 0) : Type 0 where
+  pub tests : ℕ → K → V → Bool
+  pub predicates : ℕ → K → V → Bool
+  pub ids : ℕ → ℕ
+
 -- What the desk keeps.
 pub record DeskPart (K V E : Type 0) : Type 0 where
-  -- what the cache was built with: its rules, and what the test of each number answers of a key
-  -- and its value
+  -- what the cache was built with: its rules, and what it was handed with them
   pub rules : Rules
   pub tests : ℕ → K → V → Bool
+  pub predicates : ℕ → K → V → Bool
+  pub ids : ℕ → ℕ
   pub clock : ℕ
   -- the moment of the latest invalidation of all, if there was one: what was written before is hidden
   pub valid_after : Option ℕ
+  -- the predicates that are registered, oldest first, and how many ids were drawn for them
+  pub registered : List Registered
+  pub drawn : ℕ
   -- the moment at which a stamp's record was last seen, where it was since its write
   pub accessed : ℕ → Option ℕ
   -- what a call holds: the place of a write of its own, or an owed write that it took up
@@ -119,14 +132,18 @@ empty_table K V division =
       committed = [];
     }
 
--- a desk by these rules, with a log of this size and these tests, where nothing has happened
-abbrev pub fresh_desk : (K V E : Type 0) → Rules → ℕ → (ℕ → K → V → Bool) → DeskPart K V E
-fresh_desk K V E rules size tests =
+-- a desk by these rules, with a log of this size and what it was handed, where nothing has happened
+abbrev pub fresh_desk : (K V E : Type 0) → Rules → ℕ → Handed K V → DeskPart K V E
+fresh_desk K V E rules size handed =
     record {
       rules = rules;
-      tests = tests;
+      tests = handed.tests;
+      predicates = handed.predicates;
+      ids = handed.ids;
       clock = 0;
       valid_after = None;
+      registered = [];
+      drawn = 0;
       accessed = λ _. None;
       holding = λ _. None;
       owed = [];
@@ -151,12 +168,12 @@ fresh_desk K V E rules size tests =
     }
 
 -- nothing is stored, no call was started, and the clock is 0
-abbrev pub fresh : (K V E : Type 0) → Division K → Rules → ℕ → (ℕ → K → V → Bool) → State K V E
-fresh K V E division rules size tests =
+abbrev pub fresh : (K V E : Type 0) → Division K → Rules → ℕ → Handed K V → State K V E
+fresh K V E division rules size handed =
     record {
       world = record {
         table = empty_table K V division;
-        desk = fresh_desk K V E rules size tests;
+        desk = fresh_desk K V E rules size handed;
         stay = record { call = 0; times = 0 };
       };
       calls = λ _. None;

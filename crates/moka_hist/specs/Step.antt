@@ -14,7 +14,7 @@ use Rattle.moka_hist.specs.Looking.{after_get, after_judge, after_holds}
 use Rattle.moka_hist.specs.Loading.{after_own, after_read, after_ask, after_told, after_settle}
 use Rattle.moka_hist.specs.Computing.{after_own_key, after_own_alone, after_read_key, after_ask_op, after_told_op}
 use Rattle.moka_hist.specs.Listening.{after_lock, after_unlock, after_notice, after_hearing}
-use Rattle.moka_hist.specs.Invalidating.{after_invalidate_all}
+use Rattle.moka_hist.specs.Invalidating.{after_invalidate_all, after_register}
 use Rattle.moka_hist.specs.Walking.{after_list, after_find, after_scan}
 use Rattle.moka_hist.specs.Writing.{after_moment, after_write, after_out, after_idle, stamp_asked}
 use Rattle.moka_hist.specs.declared.loads.Kind.{Kind}
@@ -90,6 +90,7 @@ module _ {K V E : Type 0} where
   access_for n (plan.Out removal key) = On_table (op.RemoveIf key (stamp_asked removal))
   access_for n plan.Idle = On_desk (visit.Clock n)
   access_for n plan.Invalidate_all = On_desk visit.InvalidateAll
+  access_for n (plan.Register test) = On_desk (visit.Register test)
   access_for n (plan.List_keys part) = On_table (op.Keys part)
   access_for n (plan.Find key) = On_table (op.Get key)
   access_for n (plan.Scan there found) = On_desk (visit.Scan there found)
@@ -149,6 +150,7 @@ module _ {K V E : Type 0} where
   after_visit c (plan.Out removal key) rest f = waits c
   after_visit c plan.Idle rest f = after_idle c rest f
   after_visit c plan.Invalidate_all rest f = after_invalidate_all c rest f
+  after_visit c (plan.Register test) rest f = after_register c f
   after_visit c (plan.List_keys part) rest f = waits c
   after_visit c (plan.Find key) rest f = waits c
   after_visit c (plan.Scan there found) rest f = after_scan c there found rest f

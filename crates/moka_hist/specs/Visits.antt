@@ -1,5 +1,5 @@
 -- The visits of the desk: what each finds, and what it changes.
-use Rattle.std.specs.Prelude.{ℕ, ◌+◌, ◌-◌, ◌==◌, nat_lt, max, Bool, true, false, not, cond, ◌&&◌, List, [], ◌∷◌, ◌++◌, length, take, drop, Option, Some, None, is_some, unwrap_or}
+use Rattle.std.specs.Prelude.{ℕ, zero, suc, ◌+◌, ◌-◌, ◌==◌, nat_lt, nat_le, max, Bool, true, false, not, cond, ◌&&◌, List, [], ◌∷◌, ◌++◌, length, take, drop, Option, Some, None, is_some, unwrap_or, Result, Ok, Err}
 use Rattle.std.specs.Option.{option_map, option_map_or, option_and_then}
 use Rattle.std.specs.List.{list_any, count_by}
 use Rattle.moka_hist.specs.Finite.{put_at, put_key, load_eq}
@@ -11,6 +11,9 @@ use Rattle.moka_hist.specs.declared.loads.Kind.TheVariants as kind
 use Rattle.moka_hist.specs.declared.notices.Notice.{Notice}
 use Rattle.moka_hist.specs.declared.notices.NoticeState.{NoticeState}
 use Rattle.moka_hist.specs.declared.notices.NoticeState.TheVariants as notice
+use Rattle.moka_hist.specs.declared.predicates.PredicateError.{PredicateError}
+use Rattle.moka_hist.specs.declared.predicates.PredicateError.TheVariants as refused
+use Rattle.moka_hist.specs.declared.predicates.Registered.{Registered}
 use Rattle.moka_hist.specs.declared.records.Stored.{Stored}
 use Rattle.moka_hist.specs.declared.rules.Cause.{Cause}
 use Rattle.moka_hist.specs.declared.rules.Times.{Times}
@@ -85,6 +88,18 @@ runs notice.Running = true
 runs notice.Ended = false
 runs notice.Skipped = false
 
+-- a predicate is registered under the id
+abbrev pub is_registered : List Registered → ℕ → Bool
+is_registered registered id = list_any (λ r. r.id == id) registered
+
+-- the number of the first of so many ids, from this number on, under which nothing is registered
+abbrev pub free_id : List Registered → (ℕ → ℕ) → ℕ → ℕ → Option ℕ
+free_id registered ids number zero = None
+free_id registered ids number (suc left) =
+    cond (is_registered registered (ids number))
+    (free_id registered ids (suc number) left)
+    (Some number)
+
 -- how a load with this owner stands for a call that comes
 abbrev pub claim_of : Option ℕ → Claim
 claim_of None = claim.Owner
@@ -131,12 +146,21 @@ module _ {K V E : Type 0} where
         accessed = accessed_at w stamp modified;
       }
 
+  -- the predicate holds on the record, which was not written later than it was registered
+  abbrev pub does_hit : DeskPart K V E → K → Stored V → Registered → Bool
+  does_hit w key stored r =
+      nat_le stored.modified r.moment && w.predicates r.test key stored.value
+
+  -- some registered predicate hits the record
+  abbrev pub is_hit : DeskPart K V E → K → Stored V → Bool
+  is_hit w key stored = list_any (does_hit w key stored) w.registered
+
   -- a call with this replace test, if any, sees the record: the test doesn't hold, and the record is
   -- visible by the clock
   abbrev pub is_seen : DeskPart K V E → Option ℕ → K → Stored V → Bool
   is_seen w replace key stored =
       not (is_replaced_by w replace key stored.value)
-      && is_visible w.rules (times_at w stored.stamp stored.modified) false
+      && is_visible w.rules (times_at w stored.stamp stored.modified) (is_hit w key stored)
 
   -- why a record leaves: for the cause handed in, or else since a write took its place or a call
   -- removed it
@@ -267,6 +291,39 @@ module _ {K V E : Type 0} where
   abbrev pub invalidated_all : DeskPart K V E → DeskPart K V E
   invalidated_all w = record w { valid_after = Some w.clock }
 
+  -- the number of the first of the next 1000 ids under which nothing is registered
+  abbrev pub next_free : DeskPart K V E → Option ℕ
+  next_free w = free_id w.registered w.ids w.drawn 1000
+
+  -- what a call gets that registers a predicate, where the cache has closures and this is the number
+  -- of the first free id, if there is one
+  abbrev pub registering_by : DeskPart K V E → Bool → Option ℕ → Result ℕ PredicateError
+  registering_by w false free = Err refused.InvalidationClosuresDisabled
+  registering_by w true None = Err refused.NoId
+  registering_by w true (Some number) = Ok (w.ids number)
+
+  abbrev pub registering : DeskPart K V E → Result ℕ PredicateError
+  registering w = registering_by w w.rules.closures (next_free w)
+
+  -- the predicate of this number is registered now, under that id; without closures none is, and no
+  -- id is drawn
+  abbrev pub registered_by : DeskPart K V E → ℕ → Bool → Option ℕ → List Registered
+  registered_by w test false free = w.registered
+  registered_by w test true None = w.registered
+  registered_by w test true (Some number) =
+      w.registered ++ record { id = w.ids number; test = test; moment = w.clock } ∷ []
+
+  abbrev pub drawn_by : DeskPart K V E → Bool → Option ℕ → ℕ
+  drawn_by w false free = w.drawn
+  drawn_by w true None = w.drawn + 1000
+  drawn_by w true (Some number) = suc number
+
+  abbrev pub registered_with : DeskPart K V E → ℕ → DeskPart K V E
+  registered_with w test = record w {
+    registered = registered_by w test w.rules.closures (next_free w);
+    drawn = drawn_by w w.rules.closures (next_free w);
+  }
+
   -- the call owns the load where nobody does, and else waits for its owner
   abbrev pub claimed : (K → K → Bool) → DeskPart K V E → ℕ → Load K → Option ℕ → DeskPart K V E
   claimed eq w call load None = record w {
@@ -323,7 +380,8 @@ module _ {K V E : Type 0} where
   finds w (visit.Judge replace key stored) = found.Judge (is_seen w replace key stored)
   finds w (visit.Scan key stored) = found.Scan (is_seen w None key stored)
   finds w (visit.Holds key stored cause) =
-      found.Holds (chosen_holds w.rules (times_at w stored.stamp stored.modified) false cause)
+      found.Holds
+      (chosen_holds w.rules (times_at w stored.stamp stored.modified) (is_hit w key stored) cause)
   finds w (visit.WaitOrOwn call key kind) =
       found.WaitOrOwn (claim_of (w.owners (record { key = key; kind = kind })))
   finds w (visit.OwnAlone call key) =
@@ -338,6 +396,7 @@ module _ {K V E : Type 0} where
   finds w (visit.ApplyOne call) = found.ApplyOne (nat_lt 0 (length w.log))
   finds w (visit.EndTurn call) = found.EndTurn
   finds w visit.InvalidateAll = found.InvalidateAll
+  finds w (visit.Register test) = found.Register (registering w)
 
   -- what it changes
   abbrev pub makes : (K → K → Bool) → DeskPart K V E → Visit K V E → DeskPart K V E
@@ -368,3 +427,4 @@ module _ {K V E : Type 0} where
   makes eq w (visit.ApplyOne call) = applied_one w
   makes eq w (visit.EndTurn call) = ended_turn w
   makes eq w visit.InvalidateAll = invalidated_all w
+  makes eq w (visit.Register test) = registered_with w test

@@ -27,6 +27,9 @@ pub enum Start<K, V> {
     Evict { key: K, stamp: u64, cause: Cause },
     /// No look shows a record any more that was written before the clock. Nothing is taken out.
     InvalidateAll,
+    /// The predicate of this number is registered, and hides each record on which it holds, but for
+    /// those that are written later.
+    InvalidateIf { test: u64 },
     /// A walk: gives each record that is visible as the walk comes to it, part by part of the table.
     Iter,
 }

@@ -40,6 +40,12 @@ pub enum Answer<K, V, E> {
     Kept,
     /// A walk has given all its records.
     End,
+    /// The predicate was registered under this id.
+    Id(u128),
+    /// The cache was built without invalidation closures, so no predicate was registered.
+    ClosuresDisabled,
+    /// Each of the next 1000 ids was registered already, so no predicate was registered.
+    NoId,
 }
 
 /// Why an event was refused. A refused event changes nothing.

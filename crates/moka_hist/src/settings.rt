@@ -16,10 +16,14 @@ pub struct Settings {
     pub time_to_idle: Option<u64>,
     /// Whether a listener hears of records that leave.
     pub listener: bool,
+    /// Whether records may be invalidated by predicates.
+    pub closures: bool,
+    /// What the ids of predicates are drawn from; 0 where it isn't set.
+    pub seed: Option<u64>,
 }
 
 impl Settings {
-    /// Gives rules of these settings. Records aren't invalidated by a test.
+    /// Gives rules of these settings.
     pub fn rules(&self) -> Rules
         ensures { AreRulesOf self.now result }
     {
@@ -28,7 +32,7 @@ impl Settings {
             time_to_live: self.time_to_live.map(Duration::from_nanos),
             time_to_idle: self.time_to_idle.map(Duration::from_nanos),
             listener: self.listener,
-            closures: false,
+            closures: self.closures,
         }
     }
 }

@@ -1,6 +1,6 @@
 //! The visits of the desk that calls make, and what they find.
 
-use crate::{Cause, Kind, Owed, Stored, Told, Write};
+use crate::{Cause, Kind, Owed, PredicateError, Stored, Told, Write};
 
 /// How a load stands for a call that asks: it is the owner now, or an earlier call is.
 #[derive(Clone, Copy, PartialEq, Eq, Debug)]
@@ -144,6 +144,10 @@ pub enum Visit<K, V, E> {
     },
     /// Hides all records that were written before the clock.
     InvalidateAll,
+    /// Registers the predicate of this number, under an id that is drawn for it.
+    Register {
+        test: u64,
+    },
 }
 
 /// What the visit of the same name finds.
@@ -171,4 +175,6 @@ pub enum Found<V, E> {
     ApplyOne(bool),
     EndTurn,
     InvalidateAll,
+    /// The id, or why none is registered; want of memory is the visit's own.
+    Register(Result<u128, PredicateError>),
 }

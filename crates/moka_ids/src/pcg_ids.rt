@@ -3,7 +3,7 @@
 ghost use Rattle.std.specs.Prelude.{◌≡◌, ℕ, ◌+◌, ◌*◌, ◌/◌, ◌%◌, ◌^◌, ◌<◌, suc};
 ghost use Rattle.moka_ids.specs.Drawn.{id_of, ids_from, seeded, variant_word, version_word};
 
-use crate::ids::Ids;
+use moka_hist::Ids;
 use rand_core::SeedableRng;
 use rand_core::utils::NextWord;
 use rand_pcg::Lcg128Xsl64;

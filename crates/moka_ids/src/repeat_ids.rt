@@ -1,6 +1,6 @@
 //! One id for ever.
 
-use crate::ids::Ids;
+use moka_hist::Ids;
 
 /// Gives its one id each time: with it the second predicate finds no id.
 #[derive(Clone, Copy, PartialEq, Eq, Debug)]

@@ -1,6 +1,7 @@
 //! Ids that another program drew, and their text.
 
-use crate::{Ids, PcgIds, RepeatIds, push_id};
+use crate::{PcgIds, RepeatIds, push_id};
+use moka_hist::Ids;
 use std::alloc::{AllocError, Global};
 
 // The texts of the first two ids of the seed.

@@ -10,7 +10,7 @@ use Rattle.moka_hist.specs.Looking.{kept_rest, keeps, misses, hits, chosen_or_no
 use Rattle.moka_hist.specs.Loading.{retries, owner_rest, after_own, after_abort, after_read, after_ask, after_told, after_settle}
 use Rattle.moka_hist.specs.Computing.{compute_rest, report_rest, put_told, end_compute, after_own_key, after_own_alone, after_read_key, after_ask_op, after_told_op}
 use Rattle.moka_hist.specs.Listening.{after_lock, after_unlock, after_notice, after_hearing}
-use Rattle.moka_hist.specs.Invalidating.{after_invalidate_all}
+use Rattle.moka_hist.specs.Invalidating.{after_invalidate_all, after_register}
 use Rattle.moka_hist.specs.Walking.{after_list, after_find, after_scan}
 use Rattle.moka_hist.specs.Writing.{nothing_answer, nothing_rest, old_stamp, once_told, removed_answer, removed_rest, said, after_moment, after_write, after_out, after_idle}
 use Rattle.moka_hist.specs.Step.{after_table, after_visit, next_of}
@@ -223,6 +223,10 @@ module _ {K V E : Type 0} where
       all_few found.InvalidateAll = goes_few b c rest less
       all_few _ = was
 
+      register_few : (f : Found V E) → Few b (after_register c f)
+      register_few (found.Register registering) = omega arith
+      register_few _ = was
+
       scan_few : (there : K) (stored : Stored V) (f : Found V E) → Few b (after_scan c there stored rest f)
       scan_few there stored (found.Scan true) = less
       scan_few there stored (found.Scan false) = goes_few b c rest less
@@ -390,6 +394,7 @@ module _ {K V E : Type 0} where
       visit_few (plan.Moment change) f = moment_few rest less change f
       visit_few plan.Idle f = idle_few rest less f
       visit_few plan.Invalidate_all f = all_few rest less f
+      visit_few (plan.Register test) f = register_few rest less f
       visit_few (plan.Scan there stored) f = scan_few rest less there stored f
       visit_few (plan.Reply a) f = omega arith
       visit_few _ f = was
@@ -486,5 +491,6 @@ module _ (K V E : Type 0) where
   calm (point.Walking (walk.Find key rest)) e = cc
   calm (point.Walking (walk.Scan key stored rest)) e = cc
   calm point.InvalidatingAll e = refl
+  calm (point.Registering test) e = refl
   calm (point.Answering a) e = refl
   calm point.Spent e = refl

@@ -145,6 +145,7 @@ module _ {K V E : Type 0} where
   IsCopied (point.Listening p) = is_copied_in p ≡ true
   IsCopied (point.Walking p) = Unit {0}
   IsCopied point.InvalidatingAll = Unit {0}
+  IsCopied (point.Registering test) = Unit {0}
   IsCopied (point.Answering answer) = Unit {0}
   IsCopied point.Spent = Unit {0}
 

@@ -1,5 +1,5 @@
 -- The form of an answer, which belongs to its access.
-use Rattle.std.specs.Prelude.{◌≡◌, ℕ, Bool, Option}
+use Rattle.std.specs.Prelude.{◌≡◌, ℕ, Bool, Option, Result}
 use Rattle.moka_hist.specs.Step.{Access}
 use Rattle.moka_hist.specs.Step as step
 use Rattle.moka_hist.specs.declared.accesses.Got.{Got}
@@ -11,6 +11,7 @@ use Rattle.moka_hist.specs.declared.visits.Found.TheVariants as found
 use Rattle.moka_hist.specs.declared.visits.Settled.{Settled}
 use Rattle.moka_hist.specs.declared.visits.Visit.{Visit}
 use Rattle.moka_hist.specs.declared.visits.Visit.TheVariants as visit
+use Rattle.moka_hist.specs.declared.predicates.PredicateError.{PredicateError}
 use Rattle.moka_hist.specs.declared.rules.Cause.{Cause}
 use Rattle.moka_hist.specs.declared.writes.Owed.{Owed}
 
@@ -39,6 +40,8 @@ module _ {K V E : Type 0} where
   IsFoundBy (visit.ApplyOne n) f = (applied : Bool) × (f ≡ found.ApplyOne applied)
   IsFoundBy (visit.EndTurn n) f = f ≡ found.EndTurn
   IsFoundBy visit.InvalidateAll f = f ≡ found.InvalidateAll
+  IsFoundBy (visit.Register test) f =
+      (registering : Result ℕ PredicateError) × (f ≡ found.Register registering)
 
   -- a table operation gives a turn of the table, a visit what such a visit finds
   abbrev pub HasForm : Access K V E → Got K V E → Type 0

@@ -93,6 +93,7 @@ module _ {K V E : Type 0} where
   VisitTakesCopies (visit.ApplyOne n) = ⊥
   VisitTakesCopies (visit.EndTurn n) = ⊥
   VisitTakesCopies visit.InvalidateAll = ⊥
+  VisitTakesCopies (visit.Register test) = ⊥
 
   -- for such an access a key or a value is copied; one of the table may take them along
   abbrev pub TakesCopies : Access K V E → Type 0
@@ -125,6 +126,7 @@ module _ {K V E : Type 0} where
   VisitNeedsMemory w (visit.ApplyOne n) = ⊥
   VisitNeedsMemory w (visit.EndTurn n) = ⊥
   VisitNeedsMemory w visit.InvalidateAll = ⊥
+  VisitNeedsMemory w (visit.Register test) = w.rules.closures ≡ true
 
   -- memory may be wanting for such an access in this world: it goes to the table, or is such a
   -- visit

@@ -287,6 +287,7 @@ module _ {K V E : Type 0} where
   plan_at (point.Listening p) = listening_plan p
   plan_at (point.Walking p) = walking_plan p
   plan_at point.InvalidatingAll = plan.Invalidate_all ∷ plan.Reply answer.Done ∷ []
+  plan_at (point.Registering test) = plan.Register test ∷ []
   plan_at (point.Answering answer) = plan.Reply answer ∷ []
   plan_at point.Spent = []
 
@@ -321,5 +322,6 @@ module _ {K V E : Type 0} where
   is_copied (point.Listening p) = is_copied_in p
   is_copied (point.Walking p) = true
   is_copied point.InvalidatingAll = true
+  is_copied (point.Registering test) = true
   is_copied (point.Answering answer) = true
   is_copied point.Spent = true

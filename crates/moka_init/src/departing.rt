@@ -1,9 +1,9 @@
 //! How a flow leaves the point where it stands, once its access was made. A point is moved out only
 //! where it is known which it is, so that no more is moved than that one holds.
-ghost use Rattle.std.specs.Prelude.{◌≡◌, [], ◌∷◌};
+ghost use Rattle.std.specs.Prelude.{◌≡◌, ℕ, [], ◌∷◌, Err};
 ghost use Rattle.moka_hist.specs.Step.{next_of};
 ghost use Rattle.moka_hist.specs.Plan as plan;
-ghost use Rattle.moka_hist.specs.Invalidating.{after_invalidate_all};
+ghost use Rattle.moka_hist.specs.Invalidating.{after_invalidate_all, after_register, registering_answer};
 ghost use Rattle.moka_hist.specs.Next.{goes};
 ghost use Rattle.moka_init.specs.FlowPlan.{call_of, standing, GoesOn, IsReady};
 ghost use Rattle.moka_init.specs.PointPlan.{plan_at};
@@ -14,7 +14,7 @@ use crate::flow::Flow;
 use crate::points::{
     Computing, Listening, Loading, Looking, Point, Posting, Removing, Walk, Writing,
 };
-use moka_hist::{Answer, Found, Got, TableTurn, Turn};
+use moka_hist::{Answer, Found, Got, PredicateError, TableTurn, Turn};
 use std::mem;
 
 impl<K: Drop, V: Drop, E: Drop> Flow<K, V, E> {
@@ -163,6 +163,32 @@ impl<K: Drop, V: Drop, E: Drop> Flow<K, V, E> {
         }
     }
 
+    // After its one visit, where the call registers a predicate.
+    pub(crate) fn registering_visited(&mut self, found: Found<V, E>) -> Turn<K, V, E>
+        requires there { (test : ℕ) × (self.old.point ≡ Point.Registering test) }
+        requires form { HasForm (access_at self.old) (Got.Desk found) }
+        ensures { GoesOn self.old (next_of self.old.call (call_of self.old) (Got.Desk found))
+            result self.new }
+    {
+        match self.point_out() {
+            Point::Registering(test) => self.after_register(test, found),
+            _ => unreachable!(),
+        }
+    }
+
+    // The id is answered, or why no predicate was registered.
+    fn after_register(&mut self, test: u64, found: Found<V, E>) -> Turn<K, V, E>
+        requires form { IsFoundBy {K = K} (visit.Register test) found }
+        ensures { GoesOn self.old
+            (after_register (standing self.old (plan_at (Point.Registering test))) found) result
+            self.new }
+    {
+        match found {
+            Found::Register(registering) => self.answers(registering_answer(registering)),
+            _ => unreachable!(),
+        }
+    }
+
     // After its one visit, where the call only answers.
     pub(crate) fn answering_visited(&mut self, found: Found<V, E>) -> Turn<K, V, E>
         requires there { (answer : Answer K V E) × (self.old.point ≡ Point.Answering answer) }
@@ -245,5 +271,26 @@ impl<K: Drop, V: Drop, E: Drop> Flow<K, V, E> {
             Point::Walking(Walk::Find { key, rest }) => self.after_look_up(key, rest, turn),
             _ => unreachable!(),
         }
+    }
+}
+
+// What is answered of a predicate: the id under which it was registered, or why it wasn't.
+fn registering_answer<K, V, E>(registering: Result<u128, PredicateError>) -> Answer<K, V, E>
+    ensures { result ≡ registering_answer registering }
+{
+    match registering {
+        Ok(id) => Answer::Id(id),
+        Err(why) => refused(why),
+    }
+}
+
+// What is answered of a predicate that was not registered. No visit finds that memory was wanting.
+fn refused<K, V, E>(why: PredicateError) -> Answer<K, V, E>
+    ensures { result ≡ registering_answer (Err why) }
+{
+    match why {
+        PredicateError::InvalidationClosuresDisabled => Answer::ClosuresDisabled,
+        PredicateError::NoId => Answer::NoId,
+        PredicateError::Memory => Answer::NoId,
     }
 }

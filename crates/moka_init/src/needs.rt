@@ -35,6 +35,7 @@ impl<K: Exact, V, E> Flow<K, V, E> {
             Point::Listening(listening) => Ok(Some(self.listening_need(listening))),
             Point::Walking(walk) => Ok(self.walking_need(walk)),
             Point::InvalidatingAll => Ok(Some(Need::InvalidateAll)),
+            Point::Registering(_) => Ok(Some(Need::Register)),
             Point::Answering(_) => Ok(Some(Need::Clock)),
             Point::Spent => Ok(Some(Need::Clock)),
         }

@@ -333,6 +333,8 @@ pub enum Point<K, V, E> {
     Walking(Walk<K, V>),
     /// All records are invalidated, which is answered with that step.
     InvalidatingAll,
+    /// Registers the predicate of this number.
+    Registering(u64),
     /// Nothing is left but this answer: the cache is disabled, or a walk has given its last record.
     Answering(Answer<K, V, E>),
     /// The call has answered.

@@ -45,6 +45,7 @@ impl<K: Drop, V: Drop, E: Drop> Point<K, V, E> {
                 Point::evict(rules.listener, Chosen { key, stamp, cause })
             }
             Start::InvalidateAll => Point::InvalidatingAll,
+            Start::InvalidateIf { test } => Point::Registering(test),
             Start::Iter => Point::walk(is_disabled(rules), parts),
         }
     }

@@ -126,6 +126,7 @@ impl<K: Drop, V: Drop, E: Drop> Flow<K, V, E> {
             Point::Listening(_) => self.listening_visited(found),
             Point::Walking(_) => self.walking_visited(found),
             Point::InvalidatingAll => self.invalidating_visited(found),
+            Point::Registering(_) => self.registering_visited(found),
             Point::Answering(_) => self.answering_visited(found),
             Point::Spent => unreachable!(),
         }

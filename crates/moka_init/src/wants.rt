@@ -261,6 +261,7 @@ impl<K: Exact, V: Exact, E: Exact> Flow<K, V, E> {
             Point::Listening(listening) => self.want_listening(listening),
             Point::Walking(walk) => self.want_walking(walk),
             Point::InvalidatingAll => Ok(Want::Desk(Visit::InvalidateAll)),
+            Point::Registering(test) => Ok(Want::Desk(Visit::Register { test: *test })),
             Point::Answering(_) => Ok(Want::Desk(Visit::Clock { call: self.call })),
             Point::Spent => unreachable!(),
         }

@@ -11,7 +11,7 @@ use Rattle.moka_desk.specs.Forgetting.{forgotten}
 use Rattle.moka_hist.specs.Dropping.{left}
 use Rattle.moka_hist.specs.Run.{last_call}
 use Rattle.moka_hist.specs.SoundDesk.{SoundDesk}
-use Rattle.moka_hist.specs.State.{DeskPart}
+use Rattle.moka_hist.specs.State.{DeskPart, Handed}
 use Rattle.moka_hist.specs.declared.writes.Owed.{Owed}
 use Rattle.moka_desk.specs.StandsFor.{StandsFor}
 use Rattle.moka_desk.specs.declared.state.Desk.{Desk}
@@ -23,7 +23,8 @@ use Rattle.std.proofs.lemmas.Option.{none-some}
 use Rattle.moka_laws.specs.Sound.{ClockKeepsSound, EnteringKeepsSound, LeavingKeepsSound, TellingKeepsSound, VisitsKeepSound}
 use Rattle.moka_laws.proofs.Counting.{put_here}
 use Rattle.moka_kept.specs.Taking.{is_of_call}
-use Rattle.moka_kept.specs.Kept.{CacheLayers, IsKept, IsToldTo}
+use Rattle.moka_layers.specs.Handing.{HandedAlike, handed_by, handed_to, ids_of}
+use Rattle.moka_kept.specs.Kept.{CacheLayers, IsKept, IsToldTo, in_hand}
 
 -- what a call was told is there to be taken
 there_at : {K V E : Type 0} (w : DeskPart K V E) (call : ℕ) (answer : Told V E) → is_of_call answer ≡ true → (told w call answer).told call ≡ Some answer
@@ -36,13 +37,13 @@ there_at w call tells.Off own = absurd (false≢true own)
 
 module _ {K V E : Type 0} {same : PartialEq.Ghosts K} {hash : Hash.Ghosts K} (eq : K → K → Bool) where
   -- the world with a sound desk that the new one stands for is kept
-  with_desk_at : (layers : CacheLayers K V E same hash) (desk : Desk K V E same hash) (w : DeskPart K V E) (kept : IsKept eq layers) → StandsFor eq desk w → SoundDesk eq w → w.size ≡ kept.world.desk.size → kept.world.desk.tests ≡ w.tests
+  with_desk_at : (layers : CacheLayers K V E same hash) (desk : Desk K V E same hash) (w : DeskPart K V E) (kept : IsKept eq layers) → StandsFor eq desk w → SoundDesk eq w → w.size ≡ kept.world.desk.size → handed_to kept.world.desk ≡ handed_to w
       → kept.world.desk.last ≤ w.last → (after : IsKept eq (record layers { desk = desk })) × (after.world.desk ≡ w)
-  with_desk_at layers desk w kept stands sound size tests last =
+  with_desk_at layers desk w kept stands sound size handed last =
       let stay = kept.stands.stay in (
         record {
           world = record kept.world { desk = w };
-          stands = record { table = kept.stands.table; desk = stands; tests = kept.stands.tests ∙ tests; stay = omega (arith, stay, last) };
+          stands = record { table = kept.stands.table; desk = stands; handed = subst (λ (these : Handed K V). HandedAlike (handed_by in_hand layers.tests (ids_of layers.ids)) these) handed kept.stands.handed; stay = omega (arith, stay, last) };
           sound = sound;
           log = subst (λ n. 0 < n) (sym size) kept.log;
           decided = kept.decided;
@@ -52,9 +53,9 @@ module _ {K V E : Type 0} {same : PartialEq.Ghosts K} {hash : Hash.Ghosts K} (eq
         refl,
       )
 
-  with_desk : (layers : CacheLayers K V E same hash) (desk : Desk K V E same hash) (w : DeskPart K V E) (kept : IsKept eq layers) → StandsFor eq desk w → SoundDesk eq w → w.size ≡ kept.world.desk.size → kept.world.desk.tests ≡ w.tests
+  with_desk : (layers : CacheLayers K V E same hash) (desk : Desk K V E same hash) (w : DeskPart K V E) (kept : IsKept eq layers) → StandsFor eq desk w → SoundDesk eq w → w.size ≡ kept.world.desk.size → handed_to kept.world.desk ≡ handed_to w
       → kept.world.desk.last ≤ w.last → IsKept eq (record layers { desk = desk })
-  with_desk layers desk w kept stands sound size tests last = (with_desk_at layers desk w kept stands sound size tests last).0
+  with_desk layers desk w kept stands sound size handed last = (with_desk_at layers desk w kept stands sound size handed last).0
 
   -- the clock moves on, or stays
   pub kept_at : (layers : CacheLayers K V E same hash) (desk : Desk K V E same hash) (moment : ℕ) → ClockKeepsSound K V E eq

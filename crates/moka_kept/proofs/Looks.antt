@@ -1,12 +1,16 @@
 -- What a look finds in the table, and in the world that is kept; and that it changes nothing.
-use Rattle.std.proofs.Common.{◌≡◌, ◌≢◌, ℕ, Bool, false, Option, Some, None, refl, sym, ap, ◌∙◌, arith}
+use Rattle.std.proofs.Common.{◌≡◌, ◌≢◌, ℕ, nat_le, Bool, false, ◌&&◌, ◌||◌, List, [], ◌∷◌, Option, Some, None, refl, sym, ap, ◌∙◌, arith}
+use Rattle.std.proofs.Math.Bool.{and-false}
+use Rattle.std.specs.List.{list_any}
 use Rattle.std.specs.HashMap.{hash_map_len}
 use Rattle.std.specs.Option.{option_map, option_map_or}
 use Rattle.std.specs.declared.cmp.PartialEq as PartialEq
 use Rattle.std.specs.declared.hash.Hash as Hash
-use Rattle.moka_hist.specs.State.{World}
+use Rattle.moka_hist.specs.State.{DeskPart, World}
 use Rattle.moka_hist.specs.Tables.{answer_of}
-use Rattle.moka_hist.specs.Visits.{is_seen}
+use Rattle.moka_hist.specs.Visible.{is_visible}
+use Rattle.moka_hist.specs.Visits.{does_hit, is_seen, times_at}
+use Rattle.moka_hist.specs.declared.predicates.Registered.{Registered}
 use Rattle.moka_hist.specs.declared.records.Stored.{Stored}
 use Rattle.moka_hist.specs.declared.tables.TableAnswer.{TableAnswer}
 use Rattle.moka_hist.specs.declared.tables.TableOp.TheVariants as op
@@ -38,10 +42,21 @@ module _ {K V : Type 0} (eq : K → K → Bool) where
   looked_found key old new keys count turn.Going apart moves = absurd (apart refl)
   looked_found key old new keys count (turn.Decided a) apart moves = answered (old key) a moves.0
 
+-- predicates that hold of nothing hit no record
+unhit : {K V E : Type 0} (w : DeskPart K V E) (key : K) (stored : Stored V) → (λ test k v. false) ≡ w.predicates
+    → (registered : List Registered) → list_any (does_hit w key stored) registered ≡ false
+unhit {K} {V} w key stored none [] = refl
+unhit {K} {V} w key stored none (r ∷ rest) =
+    ap (λ (holds : ℕ → K → V → Bool). (nat_le stored.modified r.moment && holds r.test key stored.value) || list_any (does_hit w key stored) rest) (sym none)
+    ∙ ap (λ b. b || list_any (does_hit w key stored) rest) (and-false (nat_le stored.modified r.moment))
+    ∙ unhit w key stored none rest
+
 -- a call without a replace test sees the record that is there where it is visible
-seen : {K V E : Type 0} (w : World K V E) (o : Option (K × Stored V)) → option_map_or (λ pair. is_seen w.desk None pair.0 pair.1) o false ≡ shows w.desk (option_map (λ pair. mark_of pair.1) o)
-seen w None = refl
-seen w (Some pair) = refl
+seen : {K V E : Type 0} (w : World K V E) → (λ test k v. false) ≡ w.desk.predicates
+    → (o : Option (K × Stored V)) → option_map_or (λ pair. is_seen w.desk None pair.0 pair.1) o false ≡ shows w.desk (option_map (λ pair. mark_of pair.1) o)
+seen w none None = refl
+seen w none (Some pair) =
+    ap (λ hit. is_visible w.desk.rules (times_at w.desk pair.1.stamp pair.1.modified) hit) (unhit w.desk pair.0 pair.1 none w.desk.registered)
 
 module _ {K V E : Type 0} {same : PartialEq.Ghosts K} {hash : Hash.Ghosts K} (eq : K → K → Bool) where
   -- a table that is as it was leaves the world that is kept
@@ -55,7 +70,7 @@ module _ {K V E : Type 0} {same : PartialEq.Ghosts K} {hash : Hash.Ghosts K} (eq
         stands = record {
           table = record { map = λ q. map q ∙ there.map q; keys = count ∙ there.keys; peak = omega (arith, peak, most); first = there.first; parts = there.parts; part_of = there.part_of };
           desk = kept.stands.desk;
-          tests = kept.stands.tests;
+          handed = kept.stands.handed;
           stay = kept.stands.stay;
         };
         sound = kept.sound;
@@ -69,5 +84,5 @@ module _ {K V E : Type 0} {same : PartialEq.Ghosts K} {hash : Hash.Ghosts K} (eq
   pub sees_there : (layers : CacheLayers K V E same hash) (w : World K V E) (key : K) → WorldIs eq (plain_table eq) in_hand layers w
       → sees w key ≡ shows w.desk (option_map (λ pair. mark_of pair.1) (map_of eq layers.table key))
   sees_there layers w key stands =
-      seen w (w.table.stored key)
+      seen w stands.handed.predicates (w.table.stored key)
       ∙ ap (λ o. shows w.desk (option_map (λ pair. mark_of pair.1) o)) (sym (stands.table.map key))

@@ -72,7 +72,7 @@ module _ {K V E : Type 0} {same : PartialEq.Ghosts K} {hash : Hash.Ghosts K} (eq
       let patient : times_of kept.world.stay call + most_on t layers.table ≤ most_undecided kept.world.table = omega (arith, peak, never) in
       record {
         ground = record {
-          world = record { table = kept.stands.table; desk = kept.stands.desk; tests = kept.stands.tests; stay = kept.stands.stay };
+          world = record { table = kept.stands.table; desk = kept.stands.desk; handed = kept.stands.handed; stay = kept.stands.stay };
           begun = subst (λ (b : Option (PlainCall K V)). BegunIs t layers.table call b kept.world.table kept.world.stay) (sym kept.none_begun)
               (record { fits = tt; within = omega arith; patient = patient; listing = kept.unlisted call });
           given = given;
@@ -87,7 +87,7 @@ module _ {K V E : Type 0} {same : PartialEq.Ghosts K} {hash : Hash.Ghosts K} (eq
   abbrev pub allowing : (layers : CacheLayers K V E same hash) (kept : IsKept eq layers) (P : DeskPart K V E → Type 0) → AllowsAlike eq layers.desk kept.world.desk P → IsKept eq layers
   allowing layers kept P alike = record {
     world = record kept.world { desk = with_past kept.world.desk alike.applied alike.notices };
-    stands = record { table = kept.stands.table; desk = alike.stands; tests = kept.stands.tests; stay = kept.stands.stay };
+    stands = record { table = kept.stands.table; desk = alike.stands; handed = kept.stands.handed; stay = kept.stands.stay };
     sound = alike.sound kept.sound;
     log = kept.log;
     decided = kept.decided;

@@ -12,7 +12,7 @@ use Rattle.moka_hist.specs.Plan as plan
 use Rattle.moka_hist.specs.State.{Call, DeskPart, World}
 use Rattle.moka_hist.specs.Step.{Access, Gets, On_table, On_desk, access_for, access_of}
 use Rattle.moka_hist.specs.Visible.{is_visible}
-use Rattle.moka_hist.specs.Visits.{finds, times_at}
+use Rattle.moka_hist.specs.Visits.{finds, is_hit, times_at}
 use Rattle.moka_hist.specs.declared.accesses.Got.{Got}
 use Rattle.moka_hist.specs.declared.accesses.Got.TheVariants as got
 use Rattle.moka_hist.specs.declared.events.Told.{Told}
@@ -64,6 +64,7 @@ module _ {K V E : Type 0} where
   of_item n (plan.Out removal key) = tt
   of_item n plan.Idle = refl
   of_item n plan.Invalidate_all = tt
+  of_item n (plan.Register test) = tt
   of_item n (plan.List_keys part) = tt
   of_item n (plan.Find key) = tt
   of_item n (plan.Scan there found) = tt
@@ -177,7 +178,7 @@ module _ {K V E : Type 0} where
       let made : V → Taken V E = λ v. Tested v replaced in (
         replaced,
         ap made (same_Some stored.value value is),
-        λ holds. passed (w.tests test key stored.value) (is_visible w.rules (times_at w stored.stamp stored.modified) false) (answers test key stored.value ∙ holds),
+        λ holds. passed (w.tests test key stored.value) (is_visible w.rules (times_at w stored.stamp stored.modified) (is_hit w key stored)) (answers test key stored.value ∙ holds),
       )
   found_tested w replaced value (visit.Judge None key stored) answers is = absurd (none-some value is)
   found_tested w replaced value (visit.TakeTold n) answers is = absurd (none-some value is)

@@ -20,9 +20,9 @@ module _ {K V E : Type 0} where
 abbrev pub mark_of : {V : Type 0} → Stored V → ℕ × ℕ
 mark_of stored = (stored.stamp, stored.modified)
 
--- a record of this mark, if there is one, is visible by the clock
+-- a record of this mark, if there is one, is visible by the clock, where no predicate hits it
 abbrev pub shows : {K V E : Type 0} → DeskPart K V E → Option (ℕ × ℕ) → Bool
-shows w mark = option_map_or (λ m. is_shown w m.0 m.1) mark false
+shows w mark = option_map_or (λ m. is_shown w false m.0 m.1) mark false
 
 -- the mark of the record that a look found, where it has decided and found one
 abbrev pub mark_found : {K V : Type 0} → TableTurn K V → Option (ℕ × ℕ)

@@ -4,9 +4,10 @@ use Rattle.std.specs.declared.cmp.PartialEq as PartialEq
 use Rattle.std.specs.declared.hash.Hash as Hash
 use Rattle.moka_hist.specs.SoundDesk.{SoundDesk}
 use Rattle.moka_hist.specs.Conditions.{MayVisit}
-use Rattle.moka_hist.specs.State.{DeskPart, World}
+use Rattle.moka_hist.specs.State.{DeskPart, Handed, World}
 use Rattle.moka_hist.specs.Step.{Access, On_table, On_desk}
 use Rattle.moka_hist.specs.declared.accesses.Want.{Want}
+use Rattle.moka_ids.specs.Drawn.{ids_from, seeded}
 use Rattle.moka_hist.specs.declared.events.Told.{Told}
 use Rattle.moka_init.specs.Grounds.{MayWant}
 use Rattle.moka_layers.specs.Layers.{GroundIs, WorldIs, operation_in}
@@ -19,9 +20,22 @@ use Rattle.moka_kept.specs.declared.brought.Brought.{Brought}
 use Rattle.moka_kept.specs.declared.brought.Brought.TheVariants as brought
 use Rattle.moka_kept.specs.declared.in_hand.InHand.{InHand}
 
--- each test answers what is in hand
+-- each replace test answers what is in hand, and no predicate holds
 abbrev pub in_hand : {K V : Type 0} → Tests.Ghosts InHand K V
-in_hand = record { answers = λ hand test key value. hand.replaced }
+in_hand =
+    record {
+      answers = λ hand test key value. hand.replaced;
+      hides = λ hand test key value. false;
+    }
+
+-- what the desk of a fresh cache was handed: no replace test and no predicate holds
+abbrev pub none_handed : {K V : Type 0} → Handed K V
+none_handed =
+    record {
+      tests = λ test key value. false;
+      predicates = λ test key value. false;
+      ids = ids_from (seeded 0);
+    }
 
 -- the layers of a cache: over the plain table, with the answer of a test in hand
 abbrev pub CacheLayers : (K V E : Type 0) → PartialEq.Ghosts K → Hash.Ghosts K → Type 0

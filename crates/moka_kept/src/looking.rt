@@ -58,7 +58,8 @@ impl<K: Eq + Hash + Exact, V: Exact, E: Exact> Reach<K, V, E> {
     }
 }
 
-// Whether a record of this stamp and moment, if there is one, is visible by the clock.
+// Whether a record of this stamp and moment, if there is one, is visible by the clock. No predicate
+// hits it, since none holds in a cache that tasks poll.
 fn is_shown<K: Eq + Hash + Exact, V: Exact, E: Exact>(
     desk: &Desk<K, V, E>,
     mark: Option<(u64, u64)>,
@@ -66,7 +67,7 @@ fn is_shown<K: Eq + Hash + Exact, V: Exact, E: Exact>(
     ensures { (w : DeskPart K V E) → StandsFor K.eq desk.now w → result ≡ shows w mark }
 {
     match mark {
-        Some((stamp, modified)) => desk.scan(stamp, modified),
+        Some((stamp, modified)) => desk.scan(false, stamp, modified),
         None => false,
     }
 }

@@ -30,6 +30,7 @@ use crate::number::Number;
 use crate::parked::{HandedOut, Parked};
 use moka_desk::Desk;
 use moka_hist::{Rules, Told, Turn};
+use moka_ids::PcgIds;
 use moka_init::{Flow, step};
 use moka_layers::Layers;
 use moka_needs::Need;
@@ -55,6 +56,7 @@ impl<K: Eq + Hash + Exact, V: Exact, E: Exact> Reach<K, V, E> {
             call: 0,
             begun: None,
             tests: InHand { replaced: false },
+            ids: PcgIds::new(0),
         };
         Ok(Reach::over(layers))
     }

@@ -39,7 +39,7 @@ use Rattle.moka_laws.proofs.Counting.{none_some, put_cases, some_same}
 use Rattle.moka_laws.proofs.Following.{IsFollowed, follow}
 use Rattle.moka_laws.proofs.Outcomes.{Outcomes, outcomes, passes_on}
 use Rattle.moka_laws.proofs.Owning.{plan_left}
-use Rattle.moka_laws.proofs.Rules.{IsFresh, Computes, Computes_alone, Disabled, Evicts, Locks_and_puts, Locks_and_takes_out, Puts, abort_next, chosen_next, fresh_plan, kept_next, loaded_plans, put_plans, read_key_next, told_op_next, Walks_over}
+use Rattle.moka_laws.proofs.Rules.{IsFresh, Computes, Computes_alone, Disabled, Evicts, Locks_and_puts, Locks_and_takes_out, Puts, abort_next, chosen_next, fresh_plan, kept_next, loaded_plans, put_plans, read_key_next, told_op_next, Registers, Walks_over}
 use Rattle.moka_laws.proofs.Stamps.{key_cases}
 use Rattle.moka_laws.proofs.StepCases.{OnStep, step_cases}
 use Rattle.moka_laws.proofs.Steady.{SameBase, accessed_after, accessed_by, step_base, valid_from}
@@ -92,6 +92,7 @@ module _ {K V E : Type 0} where
   fresh_timely k rules p (Locks_and_puts key value d on) = (tt, (tt, (tt, (tt, tt))))
   fresh_timely k rules p (Locks_and_takes_out removal key on named) = (tt, (tt, (tt, tt)))
   fresh_timely k rules p (Evicts key stamp cause off) = (tt, tt)
+  fresh_timely k rules p (Registers test) = (tt, tt)
   fresh_timely k rules p (Walks_over parts able) = walk_timely k p (walk_is_walk 0 parts)
   fresh_timely k rules p _ = (tt, (tt, tt))
 
@@ -227,6 +228,7 @@ module _ {K V E : Type 0} where
       λ there stored some. (tt, q.1),
     )
     on_item (plan.Scan there stored) rest q = (λ seen. q.1, λ unseen. goes_timely _ c rest q.1)
+    on_item (plan.Register test) rest q = tt
     on_item (plan.Reply a) rest q = tt
     on_item item rest q = passes_on eq Leaves w n c item rest tt (λ d. goes_timely _ c rest q.1) p
 
@@ -414,7 +416,7 @@ module _ {K V E : Type 0} (eq : K → K → Bool) where
   }
 
   in_timely : (s : State K V E) → IsReached eq s → IsTimely s
-  in_timely s h = follow eq IsTimely timely_followed (fresh K V E h.division h.rules h.size h.tests) s
+  in_timely s h = follow eq IsTimely timely_followed (fresh K V E h.division h.rules h.size h.handed) s
       h.events h.replies (record {
         stored = λ q p e. absurd (none_some e);
         accessed = λ stamp m e. absurd (none_some e);

@@ -78,6 +78,7 @@ module _ {K V E : Type 0} where
   EndsWell (plan.Holds key stamp cause there stored ∷ rest) = Unit {0}
   EndsWell (plan.Moment (plan.To_take_out removal key) ∷ rest) = Unit {0}
   EndsWell (plan.Out removal key ∷ rest) = Unit {0}
+  EndsWell (plan.Register test ∷ rest) = Unit {0}
   EndsWell (plan.Reply answer ∷ rest) = Unit {0}
   EndsWell (plan.Settle settled.NotYet ∷ rest) = ⊥
   EndsWell (_ ∷ rest) = EndsWell rest
@@ -245,6 +246,7 @@ module _ {K V E : Type 0} where
     on_item (plan.Find key) rest h p =
         ((λ more. (p, d)), (λ none. (goes_well c rest h, d)), λ k stored some. (h, d))
     on_item (plan.Scan there stored) rest h p = ((λ seen. (h, d)), λ unseen. (goes_well c rest h, d))
+    on_item (plan.Register test) rest h p = (tt, d)
     on_item (plan.Reply answer) rest h p = (tt, d)
     on_item item rest h p = passes_by eq Leaves w n c item rest tt
         (λ b a. (goes_well c rest h, rw (a.settled, a.told) d)) (p, d)
@@ -269,7 +271,7 @@ module _ {K V E : Type 0} (eq : K → K → Bool) where
 
   pub answering_kept : IsInvariant eq (IsAnswering {K = K} {V = V} {E = E})
   answering_kept = record {
-    fresh = λ division divides rules size tests has_log. record { calls = λ n c live. absurd (none_some live); desk = record { settled = λ x. none_some; told = λ x. tt } };
+    fresh = λ division divides rules size built has_log. record { calls = λ n c live. absurd (none_some live); desk = record { settled = λ x. none_some; told = λ x. tt } };
     at = λ s moment i. record { calls = i.calls; desk = i.desk };
     start = λ s start i. record {
       calls = λ n c live.

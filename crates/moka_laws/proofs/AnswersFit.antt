@@ -1,6 +1,7 @@
 -- A call answers as what it was started for may.
-use Rattle.std.proofs.Common.{◌≡◌, ℕ, ◌+◌, ◌==◌, Bool, true, false, List, [], ◌∷◌, Option, Some, None, refl, sym, ◌∙◌, subst, map, ◌++◌}
+use Rattle.std.proofs.Common.{◌≡◌, ℕ, ◌+◌, ◌==◌, Bool, true, false, List, [], ◌∷◌, Option, Some, None, refl, sym, ◌∙◌, subst, map, ◌++◌, Result, Ok, Err}
 use Rattle.std.proofs.lemmas.Bool.{false≢true}
+use Rattle.moka_hist.specs.Invalidating.{registering_answer}
 use Rattle.moka_hist.specs.Conditions.{may_end}
 use Rattle.moka_hist.specs.State.{State, World, Call}
 use Rattle.moka_hist.specs.Plan.{Item, Aim, Change, Removal, end_load, is_disabled, get_plan, insert_plan, load_plan, or_insert_plan, seek, take_out, under_lock, plan_of, iter_plan}
@@ -10,9 +11,11 @@ use Rattle.moka_hist.specs.Looking.{shown, hits, misses, keeps, finds_pair}
 use Rattle.moka_hist.specs.Loading.{after_read, after_abort, after_told, retries}
 use Rattle.moka_hist.specs.Step.{Step, state_after, takes_of}
 use Rattle.moka_hist.specs.Telling.{takes_error, does_take}
-use Rattle.moka_hist.specs.Visits.{settlement_for}
+use Rattle.moka_hist.specs.Visits.{settlement_for, registering}
 use Rattle.moka_hist.specs.Writing.{said, nothing_answer, removed_answer}
 use Rattle.moka_hist.specs.Run.{IsReached}
+use Rattle.moka_hist.specs.declared.predicates.PredicateError.{PredicateError}
+use Rattle.moka_hist.specs.declared.predicates.PredicateError.TheVariants as refused
 use Rattle.moka_hist.specs.declared.accesses.Turn.{Turn}
 use Rattle.moka_hist.specs.declared.accesses.Turn.TheVariants as turn
 use Rattle.moka_hist.specs.declared.events.Start.{Start}
@@ -159,6 +162,8 @@ module _ {K V E : Type 0} (begin : Start K V) where
   Suits (plan.Holds key stamp cause there stored) = SuitsRemoval E begin (plan.To_evict_chosen stamp cause)
   Suits (plan.Moment (plan.To_take_out removal key)) = SuitsRemoval E begin removal
   Suits (plan.Out removal key) = SuitsRemoval E begin removal
+  Suits (plan.Register test) =
+      (registering : Result ℕ PredicateError) → May (registering_answer registering)
   Suits (plan.Reply a) = May a
   Suits _ = Unit {0}
 
@@ -412,6 +417,8 @@ module _ {K V E : Type 0} (begin : Start K V) where
     )
     on_item (plan.Scan there stored) rest e q =
         ((λ seen. on _ (λ b g. cc) q.1), λ unseen. goes_suits c rest q.1)
+    on_item (plan.Register test) rest e q =
+        answers_so (registering_answer (registering w.desk)) _ refl refl (q.0 (registering w.desk))
     on_item (plan.Reply a) rest e q = answers_so a _ refl refl q.0
     on_item item rest e q =
         passes_on eq After w n c item rest tt (λ d. goes_suits c rest q.1) parks
@@ -474,6 +481,14 @@ module _ {K V : Type 0} (E : Type 0) where
   fresh_suits parts rules (start.Remove key) =
       out_suits (start.Remove key) rules plan.To_remove key (λ value. refl, refl)
   fresh_suits parts rules start.InvalidateAll = (tt, (refl, tt))
+  fresh_suits parts rules (start.InvalidateIf test) = (by, tt)
+    where
+      by : (registering : Result ℕ PredicateError) →
+          may_answer {K = K} {V = V} {E = E} (start.InvalidateIf test) (registering_answer registering) ≡ true
+      by (Ok id) = refl
+      by (Err refused.InvalidationClosuresDisabled) = refl
+      by (Err refused.NoId) = refl
+      by (Err refused.Memory) = refl
   fresh_suits parts rules start.Iter = by (is_disabled rules)
     where
       by : (b : Bool) → AllSuit {K = K} {V = V} {E = E} start.Iter (iter_plan b parts)

@@ -32,7 +32,7 @@ use Rattle.moka_hist.specs.Writing.{nothing_answer, removed_answer, said}
 use Rattle.moka_laws.proofs.Rules.{abort_next, put_plans, loaded_plans, kept_next, chosen_next, IsFresh, Disabled, fresh_plan, read_key_next, told_op_next_by, IsLoad, IsComputes, Walks_over}
 use Rattle.moka_laws.proofs.Counting.{put_here, put_there}
 use Rattle.moka_laws.proofs.Weights.{weigh, weigh_call, weigh_goes}
-use Rattle.moka_laws.proofs.Plans.{IsLook, IsTail, Answering, Settling, IsDrained, Looking, Owning, Giving, Putting, Removing, Locking_out, IsPosted, Draining, Ended, Locking, IsPlan, Posted, Drained, Posting, Hearing, Noticing, Listening, Unlocking, Turning, Applying, Ending, Judging, Reading, Asking, Telling, Writing, Choosing, Finding, Chosen, Taking, Freeing, Hiding, Idling, IsKnown, known_kept, Asking_op, Owning_key, Owning_alone, Reading_key, Telling_op, Walking}
+use Rattle.moka_laws.proofs.Plans.{IsLook, IsTail, Answering, Settling, IsDrained, Looking, Owning, Giving, Putting, Removing, Locking_out, IsPosted, Draining, Ended, Locking, IsPlan, Posted, Drained, Posting, Hearing, Noticing, Listening, Unlocking, Turning, Applying, Ending, Judging, Reading, Asking, Telling, Writing, Choosing, Finding, Chosen, Taking, Freeing, Hiding, Registering, Idling, IsKnown, known_kept, Asking_op, Owning_key, Owning_alone, Reading_key, Telling_op, Walking}
 use Rattle.moka_laws.proofs.Balance.{IsBalanced}
 use Rattle.moka_laws.proofs.Balanced.{balanced_kept, next_free}
 use Rattle.moka_laws.proofs.Kept.{IsInvariant, in_reached}
@@ -340,6 +340,8 @@ module _ {K V E : Type 0} where
         (goes_on rest (omega (arith, ap (weigh takes_told) e)))
     on_plan p e Hiding = outcomes eq Leaves w n c plan.Invalidate_all (plan.Reply said_as.Done ∷ [])
         (still (omega (arith, ap (weigh takes_told) e)))
+    on_plan p e (Registering test) = outcomes eq Leaves w n c (plan.Register test) []
+        (still (omega (arith, ap (weigh takes_told) e)))
     on_plan p e (Walking rest walk) =
         let light : IsLight {K = K} {V = V} {E = E} takes_told = (record { list = λ part. refl; find = λ key. refl; scan = λ there stored. refl; end = refl }) in
         let z : weigh takes_told c.plan ≡ 0 = ap (weigh takes_told) e ∙ weigh_walk takes_told light p walk in
@@ -423,10 +425,10 @@ module _ {K V E : Type 0} (eq : K → K → Bool) where
 
   pub asking_kept : IsInvariant eq (IsAsking {K = K} {V = V} {E = E})
   asking_kept = record {
-    fresh = λ division divides rules size tests has_log. record {
-      balanced = (balanced_kept eq).fresh division divides rules size tests has_log;
-      taking = (taking_kept eq).fresh division divides rules size tests has_log;
-      known = (known_kept eq).fresh division divides rules size tests has_log;
+    fresh = λ division divides rules size built has_log. record {
+      balanced = (balanced_kept eq).fresh division divides rules size built has_log;
+      taking = (taking_kept eq).fresh division divides rules size built has_log;
+      known = (known_kept eq).fresh division divides rules size built has_log;
       asked = λ n. refl;
     };
     at = λ s moment i. record {

@@ -380,6 +380,13 @@ module _ {K V E : Type 0} where
           balance = λ x. omega
               (arith, posts x, posts_none x rest t, times_last x n w.table.committed);
         }
+    on_item (plan.Register test) rest e t sp = record {
+      last = refl;
+      tidy = refl;
+      spent = omega arith;
+      others = λ m h. refl;
+      balance = λ x. omega (arith, posts_none x rest t);
+    }
     on_item (plan.Reply answer) rest e t sp = record {
       last = refl;
       tidy = refl;

@@ -126,7 +126,7 @@ module _ {K V E : Type 0} (eq : K → K → Bool) where
 
   pub balanced_kept : IsInvariant eq (IsBalanced {K = K} {V = V} {E = E})
   balanced_kept = record {
-    fresh = λ division divides rules size tests has_log. record {
+    fresh = λ division divides rules size built has_log. record {
       numbered = λ n c live. absurd (none_some live);
       tidy = λ n c live. absurd (none_some live);
       unspent = λ n c live. absurd (none_some live);

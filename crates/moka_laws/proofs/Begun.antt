@@ -107,9 +107,9 @@ module _ {K V E : Type 0} (eq : K → K → Bool) where
 
   pub live_started : LiveWasStarted K V E eq
   live_started s n c h live =
-      let first : AreBegun (fresh K V E h.division h.rules h.size h.tests) = record {
-        reached = fresh_reached eq h.division h.divides h.rules h.size h.tests h.has_log;
+      let first : AreBegun (fresh K V E h.division h.rules h.size h.handed) = record {
+        reached = fresh_reached eq h.division h.divides h.rules h.size h.handed h.has_log;
         begun = λ m d lives. absurd (none_some lives);
       } in
       (follow eq AreBegun begun_followed
-      (fresh K V E h.division h.rules h.size h.tests) s h.events h.replies first h.run).begun n c live
+      (fresh K V E h.division h.rules h.size h.handed) s h.events h.replies first h.run).begun n c live

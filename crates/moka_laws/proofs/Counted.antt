@@ -194,7 +194,7 @@ module _ {K V E : Type 0} (eq : K → K → Bool) (laws : IsEquivalence eq) wher
 
   counted_kept : IsInvariant {K = K} {V = V} {E = E} eq (λ s. IsCounted eq s.world.table)
   counted_kept = record {
-    fresh = λ division divides rules size tests has_log. record { alike = λ a b e. refl; counts = none };
+    fresh = λ division divides rules size built has_log. record { alike = λ a b e. refl; counts = none };
     at = λ s moment i. i;
     start = λ s start i. i;
     step = step_counted;

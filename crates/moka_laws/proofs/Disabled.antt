@@ -263,6 +263,7 @@ module _ {K V E : Type 0} where
       λ seen. record { empty = empty; calm = omega (arith, q) },
       λ unseen. goes_on rest empty (omega (arith, q)),
     )
+    on_item (plan.Register test) rest q = record { empty = empty; calm = refl }
     on_item (plan.Reply a) rest q = record { empty = empty; calm = refl }
     on_item item rest q = passes_on eq Leaves w n c item rest tt
         (λ d. goes_on rest empty (omega (arith, q))) (record { empty = empty; calm = p })
@@ -311,8 +312,8 @@ module _ {K V E : Type 0} (eq : K → K → Bool) where
 
   idle_kept : IsInvariant eq IsIdle
   idle_kept = record {
-    fresh = λ division divides rules size tests has_log. record {
-      locking = (locking_kept eq).fresh division divides rules size tests has_log;
+    fresh = λ division divides rules size built has_log. record {
+      locking = (locking_kept eq).fresh division divides rules size built has_log;
       empty = λ off. record { stored = λ q. refl; committed = refl };
       calm = λ off n c live. absurd (none_some live);
     };

@@ -389,6 +389,7 @@ module _ {K V E : Type 0} where
     on_item (plan.Find key) rest q t f =
         ((λ more. as_was refl p), (λ none. goes_on rest refl q.1), λ k stored some. as_was refl (tt, q.1))
     on_item (plan.Scan there stored) rest q t f = ((λ seen. as_was refl q.1), λ unseen. goes_on rest refl q.1)
+    on_item (plan.Register test) rest q t f = as_was refl tt
     on_item (plan.Reply a) rest q t f = as_was refl tt
     on_item item rest q t f = passes_by eq (Leaves w n) w n c item rest tt
         (λ d a. goes_on rest a.owning q.1) (as_was refl p)
@@ -454,9 +455,9 @@ module _ {K V E : Type 0} (eq : K → K → Bool) where
 
   pub fitting_kept : IsInvariant eq IsFitting
   fitting_kept = record {
-    fresh = λ division divides rules size tests has_log. record {
-      served = (served_kept eq).fresh division divides rules size tests has_log;
-      taking = (taking_kept eq).fresh division divides rules size tests has_log;
+    fresh = λ division divides rules size built has_log. record {
+      served = (served_kept eq).fresh division divides rules size built has_log;
+      taking = (taking_kept eq).fresh division divides rules size built has_log;
       fit = λ n c live. absurd (none_some live);
     };
     at = λ s moment i. record {

@@ -223,6 +223,7 @@ module _ {K V E : Type 0} where
         λ q stored some. same refl refl refl,
       )
       on_item (plan.Scan there stored) rest = ((λ seen. same refl refl refl), λ unseen. same refl refl refl)
+      on_item (plan.Register test) rest = same refl refl refl
       on_item (plan.Reply a) rest = same refl refl refl
       on_item (plan.Notice key old cause upsert) rest =
           (λ e. same refl refl refl, λ e. same refl refl refl)

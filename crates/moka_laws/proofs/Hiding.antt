@@ -6,7 +6,7 @@ use Rattle.moka_hist.specs.Plan.{Item}
 use Rattle.moka_hist.specs.Plan as plan
 use Rattle.moka_hist.specs.Step.{Access, On_desk, On_table, Step, access_of}
 use Rattle.moka_hist.specs.Visible.{is_expired, is_invalid}
-use Rattle.moka_hist.specs.Visits.{accessed_at, is_replaced_by, is_seen, times_at}
+use Rattle.moka_hist.specs.Visits.{accessed_at, is_hit, is_replaced_by, is_seen, times_at}
 use Rattle.moka_hist.specs.Run.{IsReached}
 use Rattle.moka_hist.specs.declared.accesses.Turn.{Turn}
 use Rattle.moka_hist.specs.declared.events.Start.TheVariants as start
@@ -24,11 +24,11 @@ use Rattle.moka_laws.proofs.StepCases.{OnStep, step_cases}
 use Rattle.moka_laws.proofs.Steady.{step_base, valid_from}
 
 -- what was written before the moment from which records are valid is not seen
-unseen : (replaced expired accessed : Bool) →
-    (not replaced && not (expired || (true || accessed) || false)) ≡ false
-unseen true expired accessed = refl
-unseen false true accessed = refl
-unseen false false accessed = refl
+unseen : (replaced expired accessed hit : Bool) →
+    (not replaced && not (expired || (true || accessed) || hit)) ≡ false
+unseen true expired accessed hit = refl
+unseen false true accessed hit = refl
+unseen false false accessed hit = refl
 
 -- a moment is earlier where the later of it and another is
 either_earlier : (modified kept valid : ℕ) →
@@ -157,11 +157,11 @@ module _ {K V E : Type 0} (eq : K → K → Bool) where
           ap (λ o. not (is_replaced_by d replace key stored.value) && not
           (is_expired d.rules (times_at d stored.stamp stored.modified) ||
           (is_invalid stored.modified o ||
-          is_invalid (accessed_at d stored.stamp stored.modified) o) || false)) from ∙
+          is_invalid (accessed_at d stored.stamp stored.modified) o) || is_hit d key stored)) from ∙
           ap (λ b. not (is_replaced_by d replace key stored.value) && not
           (is_expired d.rules (times_at d stored.stamp stored.modified) || (b ||
-          nat_lt (accessed_at d stored.stamp stored.modified) valid) || false))
+          nat_lt (accessed_at d stored.stamp stored.modified) valid) || is_hit d key stored))
           (less_so stored.modified valid less) ∙
           unseen (is_replaced_by d replace key stored.value)
           (is_expired d.rules (times_at d stored.stamp stored.modified))
-          (nat_lt (accessed_at d stored.stamp stored.modified) valid)
+          (nat_lt (accessed_at d stored.stamp stored.modified) valid) (is_hit d key stored)

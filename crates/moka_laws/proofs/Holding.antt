@@ -346,6 +346,7 @@ module _ {K V E : Type 0} where
         )
     on_item plan.Invalidate_all rest p q =
         keeps w.desk n (goes_holds n _ c rest (free_holds n _ rest q.1 q.0))
+    on_item (plan.Register test) rest p q = keeps w.desk n q.0
     on_item (plan.List_keys part) rest p q = (
       (λ more. keeps w.desk n p),
       λ listed keys e gives. keeps w.desk n
@@ -432,7 +433,7 @@ module _ {K V E : Type 0} (eq : K → K → Bool) where
 
   pub holding_kept : IsInvariant eq (IsHolding {K = K} {V = V} {E = E})
   holding_kept = record {
-    fresh = λ division divides rules size tests has_log. record { balanced = (balanced_kept eq).fresh division divides rules size tests has_log; holds = λ n. refl };
+    fresh = λ division divides rules size built has_log. record { balanced = (balanced_kept eq).fresh division divides rules size built has_log; holds = λ n. refl };
     at = λ s moment i. record { balanced = (balanced_kept eq).at s moment i.balanced; holds = i.holds };
     start = holding_start;
     step = holding_step;

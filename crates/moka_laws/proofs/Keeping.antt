@@ -1,7 +1,9 @@
 -- A record that was chosen to leave is kept by cause.
-use Rattle.std.proofs.Common.{◌≡◌, ◌⊎◌, inl, inr, ℕ, ◌+◌, ◌<◌, ◌==◌, Bool, true, false, cond, List, [], ◌∷◌, Option, Some, None, refl, sym, ap, ◌∙◌, subst, arith, map, ◌++◌}
+use Rattle.std.proofs.Common.{◌≡◌, ◌⊎◌, inl, inr, ℕ, ◌+◌, ◌<◌, ◌==◌, Bool, true, false, cond, List, [], ◌∷◌, Option, Some, None, refl, sym, ap, ◌∙◌, subst, arith, map, ◌++◌, Result, Ok, Err}
 use Rattle.std.proofs.lemmas.Bool.{eqb-true, false≢true}
 use Rattle.std.specs.Prelude.{IsSomeAnd}
+use Rattle.moka_hist.specs.Visits.{registering}
+use Rattle.moka_hist.specs.Invalidating.{registering_answer}
 use Rattle.moka_hist.specs.Plan.{or_insert_plan, seek}
 use Rattle.moka_hist.specs.Finite.{put_at}
 use Rattle.moka_hist.specs.State.{State, World, Call}
@@ -13,6 +15,8 @@ use Rattle.moka_hist.specs.Loading.{after_abort, after_read, after_told, retries
 use Rattle.moka_hist.specs.Step.{Step, state_after}
 use Rattle.moka_hist.specs.Tables.{taken_by}
 use Rattle.moka_hist.specs.Run.{fresh_call}
+use Rattle.moka_hist.specs.declared.predicates.PredicateError.{PredicateError}
+use Rattle.moka_hist.specs.declared.predicates.PredicateError.TheVariants as refused
 use Rattle.moka_hist.specs.declared.accesses.Turn.{Turn}
 use Rattle.moka_hist.specs.declared.accesses.Turn.TheVariants as turn
 use Rattle.moka_hist.specs.declared.events.Told.{Told}
@@ -48,6 +52,13 @@ same_answer : {K V E : Type 0} (a b : Answer K V E) → ◌≡◌ {A = Turn K V 
     (turn.Answer b) →
     a ≡ b
 same_answer a b e = cc
+
+registering_kept : (K V E : Type 0) (registering : Result ℕ PredicateError) →
+    kept (registering_answer {K = K} {V = V} {E = E} registering) ≡ 0
+registering_kept K V E (Ok id) = refl
+registering_kept K V E (Err refused.InvalidationClosuresDisabled) = refl
+registering_kept K V E (Err refused.NoId) = refl
+registering_kept K V E (Err refused.Memory) = refl
 
 module _ {K V E : Type 0} where
   -- the item answers that the record was kept, or judges a chosen one as if it were to be seen
@@ -465,6 +476,11 @@ module _ {K V E : Type 0} (s : State K V E) where
         λ seen. quiet (plan.Scan there found) _ (λ h. h) (record { left = omega (arith, q); turn = λ f. cc }),
         λ unseen. quiet (plan.Scan there found) _ (λ h. h) (goes_quiet c rest (omega (arith, q))),
       )
+      on_item (plan.Register test) rest q = quiet (plan.Register test) _ (λ h. h) (record {
+        left = refl;
+        turn = answers_quiet (registering_answer (registering s.world.desk))
+            (registering_kept K V E (registering s.world.desk));
+      })
       on_item (plan.Reply a) rest q =
           quiet (plan.Reply a) _ (λ h. h) (record {
             left = refl;
@@ -551,7 +567,7 @@ module _ {K V E : Type 0} (eq : K → K → Bool) where
 
   calm_kept : events.IsInvariant eq AreCalm
   calm_kept = record {
-    fresh = λ division divides rules size tests has_log n c live. absurd (none_some live);
+    fresh = λ division divides rules size built has_log n c live. absurd (none_some live);
     at = λ s moment i. i;
     start = λ s start i n c live.
         put_cases s.calls (s.world.desk.last + 1) (Some (fresh_call s.world.table.division.parts s.world.desk.rules start)) n

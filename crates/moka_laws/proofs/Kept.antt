@@ -1,6 +1,6 @@
 -- What holds of a fresh cache and is kept by each event holds of every reached state.
 use Rattle.std.proofs.Common.{◌<◌, ◌≢◌, ◌≡◌, ℕ, zero, suc, Bool, true, false, List, [], ◌∷◌, Option, Some, None, MatchOption, MatchBool, nat_lt, ◌==◌, refl, sym, subst}
-use Rattle.moka_hist.specs.State.{Division, State, Call, fresh}
+use Rattle.moka_hist.specs.State.{Division, State, Call, fresh, Handed}
 use Rattle.moka_hist.specs.Dropping.{dropped}
 use Rattle.moka_hist.specs.Telling.{is_asked, is_taken, heard, told_call}
 use Rattle.moka_hist.specs.Telling.{told as tells}
@@ -22,7 +22,7 @@ use Rattle.moka_hist.specs.declared.accesses.Turn.{Turn}
 module _ {K V E : Type 0} (eq : K → K → Bool) where
   -- a fresh cache has it, and each event keeps it
   pub record IsInvariant (I : State K V E → Type 0) : Type 0 where
-    pub fresh : (division : Division K) → Divides eq division → (rules : Rules) (size : ℕ) (tests : ℕ → K → V → Bool) → 0 < size → I (fresh K V E division rules size tests)
+    pub fresh : (division : Division K) → Divides eq division → (rules : Rules) (size : ℕ) (built : Handed K V) → 0 < size → I (fresh K V E division rules size built)
     pub at : (s : State K V E) (moment : ℕ) → I s → I (at_moment s moment)
     pub start : (s : State K V E) (start : Start K V) → I s → I (started s start)
     pub step : (s t : State K V E) (n : ℕ) (turn : Turn K V E) → I s → Step eq s n turn t → I t
@@ -105,4 +105,4 @@ module _ {K V E : Type 0} (eq : K → K → Bool) where
       record { at = kept.at; start = kept.start; step = kept.step; tell = kept.tell; hear = kept.hear; drop = kept.drop }
 
   pub in_reached : (I : State K V E → Type 0) → IsInvariant I → (s : State K V E) → IsReached eq s → I s
-  in_reached I kept s h = runs I (stable I kept) (fresh K V E h.division h.rules h.size h.tests) s h.events h.replies (kept.fresh h.division h.divides h.rules h.size h.tests h.has_log) h.run
+  in_reached I kept s h = runs I (stable I kept) (fresh K V E h.division h.rules h.size h.handed) s h.events h.replies (kept.fresh h.division h.divides h.rules h.size h.handed h.has_log) h.run

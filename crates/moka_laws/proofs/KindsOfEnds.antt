@@ -274,6 +274,8 @@ module _ {K V E : Type 0} where
       on_item (plan.Scan there stored) rest e =
           let idle = idle_by (plan.Scan there stored) rest e refl in
           (λ seen. same refl refl refl idle, λ unseen. same refl refl refl idle)
+      on_item (plan.Register test) rest e =
+          same refl refl refl (idle_by (plan.Register test) rest e refl)
       on_item (plan.Reply a) rest e =
           same refl refl refl (idle_by (plan.Reply a) rest e refl)
       on_item (plan.Notice key old cause upsert) rest e =
@@ -457,8 +459,8 @@ module _ {K V E : Type 0} (eq : K → K → Bool) where
 
   ends_kept : IsInvariant eq EndsFit
   ends_kept = record {
-    fresh = λ division divides rules size tests has_log. record {
-      well = (well_kept eq).fresh division divides rules size tests has_log;
+    fresh = λ division divides rules size built has_log. record {
+      well = (well_kept eq).fresh division divides rules size built has_log;
       ended = λ o with e. absurd (none_some e);
       reads = λ m o load with j a e. absurd (none_some j);
     };

@@ -546,6 +546,7 @@ module _ {K V E : Type 0} where
       (λ seen. keeps w.desk n c refl (like _ _ q (λ h. omega arith) (λ h. calm_outside rest h) (λ k i. absurd i))),
       λ unseen. goes_on w.desk n c rest (like _ _ q (λ h. omega arith) (λ h. calm_outside rest h) (λ k i. absurd i)),
     )
+    on_item (plan.Register test) rest p q = keeps w.desk n c tt (free _ refl q (λ k i. i))
     on_item (plan.Reply a) rest p q = keeps w.desk n c tt (free _ refl q (λ k i. i))
     on_item _ rest p q = goes_on w.desk n c rest (like _ _ q (λ h. omega arith) (λ h. calm_outside rest h) (λ k i. absurd i))
 
@@ -652,8 +653,8 @@ module _ {K V E : Type 0} (eq : K → K → Bool) where
 
   pub locking_kept : IsInvariant eq (IsLocking {K = K} {V = V} {E = E})
   locking_kept = record {
-    fresh = λ division divides rules size tests has_log. record {
-      balanced = (balanced_kept eq).fresh division divides rules size tests has_log;
+    fresh = λ division divides rules size built has_log. record {
+      balanced = (balanced_kept eq).fresh division divides rules size built has_log;
       rules = λ n c live. absurd (none_some live);
       locks = λ n. record { none = λ e. (refl, refl); outside = λ e f. tt; inside = λ e k f. absurd (none_some f) };
     };

@@ -188,16 +188,22 @@ module _ {K V E : Type 0} (eq : K → K → Bool) (key : K) (n : ℕ) where
       same : (k : K) (x : Stored V) → c.plan ≡ plan.Judge shows k x ∷ [] → stored ≡ x
       same k x f = (same_judged there k stored x (sym e ∙ f)).1
 
+      as_visible : (k : K) (x : Stored V) → c.plan ≡ plan.Judge shows k x ∷ [] →
+          is_visible_in s there stored ≡ is_visible_in s k x
+      as_visible k x f =
+          let judged = same_judged there k stored x (sym e ∙ f) in
+          ap (λ a. is_visible_in s a stored) judged.0 ∙ ap (is_visible_in s k) judged.1
+
       -- the record is visible, and nothing is not seen; or the other way round
-      visible : is_visible_in s stored ≡ true → (r : Turn K V E) (v : State K V E) →
+      visible : is_visible_in s there stored ≡ true → (r : Turn K V E) (v : State K V E) →
           SeesNothing s n c key r v → ⊥
       visible seen r v (inl looked) = judges_not c.plan looked.looks there stored e
       visible seen r v (inr judges) = false≢true
-          (sym judges.3 ∙ ap (is_visible_in s) (sym (same judges.0 judges.1 judges.2)) ∙ seen)
+          (sym judges.3 ∙ sym (as_visible judges.0 judges.1 judges.2) ∙ seen)
 
-      hidden : is_visible_in s stored ≡ false → (value : V) → SeesValue eq s n c key value → ⊥
+      hidden : is_visible_in s there stored ≡ false → (value : V) → SeesValue eq s n c key value → ⊥
       hidden unseen value sees = false≢true
-          (sym unseen ∙ ap (is_visible_in s) (same sees.there sees.stored sees.judging) ∙
+          (sym unseen ∙ as_visible sees.there sees.stored sees.judging ∙
           sees.visible)
 
     abbrev judges : K → Stored V → Next K V E
@@ -264,7 +270,7 @@ module _ {K V E : Type 0} (eq : K → K → Bool) (key : K) (n : ℕ) where
 
     seen_so : (there : K) (stored : Stored V) → c.plan ≡ plan.Judge shows there stored ∷ [] →
         HasMade eq s n (LooksUp n shows key (Some (there, stored))) →
-        is_visible_in s stored ≡ true → (new : World K V E) →
+        is_visible_in s there stored ≡ true → (new : World K V E) →
         Shows new (answers (answer.Found (Some stored.value)))
     seen_so there stored e i seen new step = record {
       left = gone new (answer.Found (Some stored.value));
@@ -287,7 +293,7 @@ module _ {K V E : Type 0} (eq : K → K → Bool) (key : K) (n : ℕ) where
     }
 
     unseen_so : (there : K) (stored : Stored V) → c.plan ≡ plan.Judge shows there stored ∷ [] →
-        is_visible_in s stored ≡ false → (new : World K V E) →
+        is_visible_in s there stored ≡ false → (new : World K V E) →
         Shows new (answers (answer.Found None))
     unseen_so there stored e unseen new step = record {
       left = gone new (answer.Found None);

@@ -177,6 +177,7 @@ module _ {K V E : Type 0} where
       λ k old off some. record { silent = λ k v e. cc; calm = λ was q. omega (arith, said_calm c rest removal (removed_answer removal old.value)) },
       λ k old on some. record { silent = λ k v e. cc; calm = λ was q. omega (arith, said_calm c rest removal (removed_answer removal old.value)) },
     )
+    on_item (plan.Register test) rest free = record { silent = λ k v e. cc; calm = λ was q. refl }
     on_item (plan.Reply a) rest free = record { silent = λ k v e. cc; calm = λ was q. refl }
     on_item (plan.List_keys part) rest free = absurd (omega (arith, free))
     on_item (plan.Find key) rest free = absurd (omega (arith, free))

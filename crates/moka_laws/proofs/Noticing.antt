@@ -39,7 +39,7 @@ use Rattle.moka_laws.proofs.Weights.{weigh_call}
 use Rattle.moka_laws.proofs.Posts.{once, among, among_owed, post_of, posts_held}
 use Rattle.moka_laws.proofs.Balance.{times_first, times_last}
 use Rattle.moka_laws.proofs.Owning.{plan_left}
-use Rattle.moka_laws.proofs.Plans.{IsTail, Answering, Settling, IsDrained, Looking, Putting, IsPosted, Draining, Ended, Locking, IsPlan, Posted, Drained, Posting, Hearing, Noticing, Listening, Unlocking, Turning, Applying, Ending, Judging, Owning, Giving, Reading, Asking, Telling, Writing, IsLook, Removing, Locking_out, Choosing, Finding, Chosen, Taking, Freeing, Hiding, Idling, Asking_op, Owning_key, Owning_alone, Reading_key, Telling_op, Walking}
+use Rattle.moka_laws.proofs.Plans.{IsTail, Answering, Settling, IsDrained, Looking, Putting, IsPosted, Draining, Ended, Locking, IsPlan, Posted, Drained, Posting, Hearing, Noticing, Listening, Unlocking, Turning, Applying, Ending, Judging, Owning, Giving, Reading, Asking, Telling, Writing, IsLook, Removing, Locking_out, Choosing, Finding, Chosen, Taking, Freeing, Hiding, Registering, Idling, Asking_op, Owning_key, Owning_alone, Reading_key, Telling_op, Walking}
 use Rattle.moka_laws.proofs.Replacing.{IsReplacing, replacing_kept, not_opened}
 use Rattle.moka_laws.proofs.Rules.{abort_next, put_plans, loaded_plans, kept_next, chosen_next, IsFresh, Disabled, fresh_plan, read_key_next, told_op_next, Walks_over}
 use Rattle.moka_laws.proofs.Kept.{IsInvariant, in_reached}
@@ -500,6 +500,8 @@ module _ {K V E : Type 0} where
         (plain w.desk n o t p _ refl (tail_none n c rest q))
     on_plan p e h Hiding = outcomes eq (Made p) w n c plan.Invalidate_all (plan.Reply reply.Done ∷ [])
         (plain w.desk n o t p _ refl refl)
+    on_plan p e h (Registering test) = outcomes eq (Made p) w n c (plan.Register test) []
+        (plain w.desk n o t p _ refl refl)
     on_plan p e h (Walking rest walk) = on_walk eq (Made p) w n c rest walk
         (λ listings stay next on. plain w.desk n o t p _ (walk_quiet n p walk)
         (walks_none n c (ap (naming n) e ∙ walk_none n p walk) next on))
@@ -697,8 +699,8 @@ module _ {K V E : Type 0} (eq : K → K → Bool) where
 
   pub noticing_kept : IsInvariant eq (IsNoticing {K = K} {V = V} {E = E})
   noticing_kept = record {
-    fresh = λ division divides rules size tests has_log. record {
-      replacing = (replacing_kept eq).fresh division divides rules size tests has_log;
+    fresh = λ division divides rules size built has_log. record {
+      replacing = (replacing_kept eq).fresh division divides rules size built has_log;
       named = λ n c live. absurd (none_some live);
       owed_named = tt;
       noted = record { numbered = λ n x e. absurd (none_some e); opened_once = λ n. refl; skipped = λ n x e s. absurd (none_some e) };

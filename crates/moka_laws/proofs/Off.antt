@@ -83,8 +83,8 @@ module _ {K V E : Type 0} (eq : K → K → Bool) where
 
   pub off_was_told : OffWasTold K V E eq
   off_was_told s h e =
-      let begins : State K V E = fresh K V E h.division h.rules h.size h.tests in
+      let begins : State K V E = fresh K V E h.division h.rules h.size h.handed in
       (follow eq IsTold told_followed begins s h.events h.replies (record {
-        reached = fresh_reached eq h.division h.divides h.rules h.size h.tests h.has_log;
+        reached = fresh_reached eq h.division h.divides h.rules h.size h.handed h.has_log;
         told = λ off. absurd (false≢true off);
       }) h.run).told e

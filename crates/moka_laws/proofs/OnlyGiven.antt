@@ -1,14 +1,15 @@
 -- Whatever is stored and handed out was given. What is fair here, of a plan, a desk or a table, is
 -- to store only what was given, and to hand out only what was given for an equal key.
-use Rattle.std.proofs.Common.{◌≡◌, ℕ, ◌+◌, ◌==◌, Bool, true, false, cond, ◌&&◌, nat_lt, is_some, List, [], ◌∷◌, Option, Some, None, MatchOption, ◌⊎◌, inl, inr, refl, sym, ap, ◌∙◌, subst, map, ◌++◌}
+use Rattle.std.proofs.Common.{◌≡◌, ℕ, ◌+◌, ◌==◌, Bool, true, false, cond, ◌&&◌, nat_lt, is_some, List, [], ◌∷◌, Option, Some, None, MatchOption, Result, Ok, Err, ◌⊎◌, inl, inr, refl, sym, ap, ◌∙◌, subst, map, ◌++◌}
 use Rattle.std.specs.Cmp.{IsEquivalence}
 use Rattle.std.specs.Prelude.{IsSomeAnd, unwrap_or}
 use Rattle.std.proofs.lemmas.Bool.{eqb-true}
 use Rattle.std.specs.Option.{option_and_then, option_map}
 use Rattle.moka_hist.specs.Dropping.{dropped}
 use Rattle.moka_hist.specs.Finite.{load_eq, put_at, put_key}
-use Rattle.moka_hist.specs.Visits.{owners_without, settled_with, settled_without, settlement_for}
-use Rattle.moka_hist.specs.State.{State, World, Call, DeskPart, fresh, Division}
+use Rattle.moka_hist.specs.Invalidating.{registering_answer}
+use Rattle.moka_hist.specs.Visits.{owners_without, registering, settled_with, settled_without, settlement_for}
+use Rattle.moka_hist.specs.State.{State, World, Call, DeskPart, fresh, Division, Handed}
 use Rattle.moka_hist.specs.Plan.{Item, Aim, told_on, Removal, plan_of, is_disabled, put, get_plan, insert_plan, load_plan, or_insert_plan, seek, take_out, under_lock, iter_plan}
 use Rattle.moka_hist.specs.Plan as plan
 use Rattle.moka_hist.specs.Next.{Next, goes}
@@ -37,6 +38,8 @@ use Rattle.moka_hist.specs.declared.loads.Sought.{Sought}
 use Rattle.moka_hist.specs.declared.records.Stored.{Stored}
 use Rattle.moka_hist.specs.declared.replies.Answer.{Answer}
 use Rattle.moka_hist.specs.declared.replies.Refusal.TheVariants as refusal
+use Rattle.moka_hist.specs.declared.predicates.PredicateError.{PredicateError}
+use Rattle.moka_hist.specs.declared.predicates.PredicateError.TheVariants as refused
 use Rattle.moka_hist.specs.declared.replies.Reply.{Reply}
 use Rattle.moka_hist.specs.declared.replies.Reply.TheVariants as reply
 use Rattle.moka_hist.specs.declared.rules.Rules.{Rules}
@@ -142,6 +145,20 @@ module _ {K V : Type 0} (R : K → V → Type 0) (q : K) where
 
   none_fair : ValueFair R q None
   none_fair v e = absurd (none_some e)
+
+-- who registers a predicate is handed no value
+registered_says : (K V E : Type 0) (registering : Result ℕ PredicateError) →
+    value_of (registering_answer {K = K} {V = V} {E = E} registering) ≡ None
+registered_says K V E (Ok id) = refl
+registered_says K V E (Err refused.InvalidationClosuresDisabled) = refl
+registered_says K V E (Err refused.NoId) = refl
+registered_says K V E (Err refused.Memory) = refl
+
+registered_fair : {K V : Type 0} (E : Type 0) (R : K → V → Type 0) (q : K)
+    (registering : Result ℕ PredicateError) →
+    ValueFair R q (value_of (registering_answer {K = K} {V = V} {E = E} registering))
+registered_fair {K} {V} E R q registering v e =
+    absurd (none_some (sym (registered_says K V E registering) ∙ e))
 
 -- what was given for the key may be handed out for it
 own_fair : {K V : Type 0} (P R : K → V → Type 0) (q : K) (Q : ℕ → K → Type 0) (eq : K → K → Bool) →
@@ -625,6 +642,7 @@ module _ {K V E : Type 0} (P R : K → V → Type 0) (q : K) where
         λ yes. still table desk refl (rest_fair (w.desk.told n) rest f.1, none_fair R q),
         λ no. goes_on rest table desk refl f.1,
       )
+      on_item (plan.Register test) rest is f = still table desk refl (tt, registered_fair E R q (registering w.desk))
       on_item (plan.Reply a) rest is f = still table desk refl (tt, f.0)
       on_item item rest is f = passes_by eq After w n c item rest tt
           (λ d a. goes_on rest table (rw (a.owners, a.joined, a.settled) desk) a.told f.1)
@@ -692,23 +710,27 @@ module _ {K V : Type 0} (E : Type 0) (P R : K → V → Type 0) where
   fresh_fair own parts rules (start.Evict key stamp cause) h none =
       lock_fair key rules.listener _ ((refl, refl), tt)
   fresh_fair own parts rules start.InvalidateAll h none = (tt, (none_fair R none, tt))
+  fresh_fair own parts rules (start.InvalidateIf test) h none = (tt, tt)
   fresh_fair own parts rules start.Iter h none = iter_fair none (is_disabled rules) parts
   fresh_fair own parts rules _ h none = (refl, tt)
 
--- the plan is that of a call without a key: it hides all, or walks
+-- the plan is that of a call without a key: it hides all, registers a predicate, or walks
 abbrev IsKeyless : {K V E : Type 0} → List (Item K V E) → Type 0
-IsKeyless rest = (rest ≡ plan.Invalidate_all ∷ plan.Reply answer.Done ∷ []) ⊎ IsWalk rest
+IsKeyless rest =
+    (rest ≡ plan.Invalidate_all ∷ plan.Reply answer.Done ∷ [])
+    ⊎ (((test : ℕ) × (rest ≡ plan.Register test ∷ [])) ⊎ IsWalk rest)
 
 -- a call that is started for no key has such a plan
 keyless_plan : {K V : Type 0} (E : Type 0) (parts : ℕ) (rules : Rules) (begin : Start K V) →
     key_started begin ≡ None →
     IsKeyless (plan_of {E = E} parts rules begin)
 keyless_plan E parts rules start.InvalidateAll e = inl refl
+keyless_plan E parts rules (start.InvalidateIf test) e = inr (inl (test, refl))
 keyless_plan {K} {V} E parts rules start.Iter e = by (is_disabled rules)
   where
     by : (b : Bool) → IsKeyless (iter_plan {K = K} {V = V} {E = E} b parts)
-    by true = inr Ends
-    by false = inr (walk_is_walk 0 parts)
+    by true = inr (inr Ends)
+    by false = inr (inr (walk_is_walk 0 parts))
 keyless_plan E parts rules _ e = absurd (none_some (sym e))
 
 module _ {K V E : Type 0} (P R : K → V → Type 0) where
@@ -814,14 +836,25 @@ module _ {K V E : Type 0} (P R : K → V → Type 0) where
             left = λ d e. absurd (none_some e);
             says = refl;
           }))
-      keyless_cases s n c (inr walk) = on_walk eq (Gone s) s.world n c c.plan walk
+      keyless_cases s n c (inr (inl (test, registers))) =
+          subst (λ p. OnStep eq (Gone s) s.world n c p) (sym registers)
+          (outcomes eq (Gone s) s.world n c (plan.Register test) [] (record {
+            table = refl;
+            owners = refl;
+            joined = refl;
+            settled = refl;
+            told = refl;
+            left = λ d e. absurd (none_some e);
+            says = registered_says K V E (registering s.world.desk);
+          }))
+      keyless_cases s n c (inr (inr walk)) = on_walk eq (Gone s) s.world n c c.plan walk
           (λ listings stay next on. record {
             table = refl;
             owners = refl;
             joined = refl;
             settled = refl;
             told = refl;
-            left = λ d e. inr (walks_left c d walk next on e);
+            left = λ d e. inr (inr (walks_left c d walk next on e));
             says = walks_say c next on;
           })
           (record {
@@ -954,15 +987,15 @@ module _ {K V E : Type 0} (P R : K → V → Type 0) where
       }
 
       -- what a run leaves of a fresh cache is fair, if it gives and starts only what is P and Q
-      run_fair : (division : Division K) (rules : Rules) (size : ℕ) (tests : ℕ → K → V → Bool) (s : State K V E)
+      run_fair : (division : Division K) (rules : Rules) (size : ℕ) (built : Handed K V) (s : State K V E)
           (es : List (Event K V E)) (rs : List (Reply K V E))
-          (run : Run eq Any (fresh K V E division rules size tests) es rs s) →
+          (run : Run eq Any (fresh K V E division rules size built) es rs s) →
           ((key : K) (value : V) →
-          WasGiven eq (fresh K V E division rules size tests) es rs s run key value → P key value) →
+          WasGiven eq (fresh K V E division rules size built) es rs s run key value → P key value) →
           ((n : ℕ) (start : Start K V) (key : K) → HasStarted n es rs start →
           key_started start ≡ Some key → Q n key) → IsFair s
-      run_fair division rules size tests s es rs run gave begun =
-          along P Q eq IsFair fair_kept (fresh K V E division rules size tests) s es rs run gave begun
+      run_fair division rules size built s es rs run gave begun =
+          along P Q eq IsFair fair_kept (fresh K V E division rules size built) s es rs run gave begun
           (record {
             table = λ q p e. absurd (none_some e);
             desk = record {
@@ -974,24 +1007,24 @@ module _ {K V E : Type 0} (P R : K → V → Type 0) where
           })
 
 pub stored_given : {K V E : Type 0} (eq : K → K → Bool) → StoredIsGiven K V E eq
-stored_given {K} {V} {E} eq division rules size tests s es rs run q p is =
+stored_given {K} {V} {E} eq division rules size built s es rs run q p is =
     let given : K → V → Type 0 =
-    WasGiven eq (fresh K V E division rules size tests) es rs s run in
+    WasGiven eq (fresh K V E division rules size built) es rs s run in
     let ties : Ties given (λ _ _. Unit {0}) (λ _ _. Unit {0}) eq = record {
       own = λ k value h. tt;
       near = λ k r value h e. tt;
       read = λ n o r r1 a b value h1 h2 h3 e h4 h5. tt;
     } in
     let fair : IsFair given (λ _ _. Unit {0}) (λ _ _. Unit {0}) eq s =
-    run_fair given (λ _ _. Unit {0}) (λ _ _. Unit {0}) eq ties division rules size tests s es rs run
+    run_fair given (λ _ _. Unit {0}) (λ _ _. Unit {0}) eq ties division rules size built s es rs run
     (λ key value h. h) (λ n start key h is. tt) in
     (fair.table q p is).0
 
 module _ {K V E : Type 0} (eq : K → K → Bool) (laws : IsEquivalence eq) (division : Division K) (rules : Rules) (size : ℕ)
-    (tests : ℕ → K → V → Bool) (s : State K V E) (es : List (Event K V E)) (rs : List (Reply K V E))
-    (run : Run eq Any (fresh K V E division rules size tests) es rs s) where
+    (built : Handed K V) (s : State K V E) (es : List (Event K V E)) (rs : List (Reply K V E))
+    (run : Run eq Any (fresh K V E division rules size built) es rs s) where
   abbrev Given : K → V → Type 0
-  Given = WasGiven eq (fresh K V E division rules size tests) es rs s run
+  Given = WasGiven eq (fresh K V E division rules size built) es rs s run
 
   -- it was given for an equal key
   abbrev Near : K → V → Type 0
@@ -1008,7 +1041,7 @@ module _ {K V E : Type 0} (eq : K → K → Bool) (laws : IsEquivalence eq) (div
 
   one_key : (n : ℕ) (a b : K) → StartedFor n a → StartedFor n b → a ≡ b
   one_key n a b x y = some_same (sym x.2 ∙
-      ap key_started (started_once eq (fresh K V E division rules size tests) s es rs n x.0 y.0 run x.1 y.1) ∙ y.2)
+      ap key_started (started_once eq (fresh K V E division rules size built) s es rs n x.0 y.0 run x.1 y.1) ∙ y.2)
 
   given_ties : Ties Given Near StartedFor eq
   given_ties = record {
@@ -1023,7 +1056,7 @@ module _ {K V E : Type 0} (eq : K → K → Bool) (laws : IsEquivalence eq) (div
   }
 
   given_fair : IsFair Given Near StartedFor eq s
-  given_fair = run_fair Given Near StartedFor eq given_ties division rules size tests s es rs run
+  given_fair = run_fair Given Near StartedFor eq given_ties division rules size built s es rs run
       (λ key v h. h) (λ n start key b is. (start, b, is))
 
   -- what a call may hand out was given for a key equal to its own
@@ -1037,7 +1070,7 @@ module _ {K V E : Type 0} (eq : K → K → Bool) (laws : IsEquivalence eq) (div
       key : (start : Start K V) → HasStarted n es rs start → (q : K) → StartedFor n q →
           Some q ≡ key_started start
       key start began q for = sym for.2 ∙ ap key_started
-          (started_once eq (fresh K V E division rules size tests) s es rs n for.0 start run for.1 began)
+          (started_once eq (fresh K V E division rules size built) s es rs n for.0 start run for.1 began)
   given_near n turn start value began (inr none) is = absurd (none_some (sym none ∙ is))
 
   -- as it is stepped or polled
@@ -1071,11 +1104,11 @@ module _ {K V E : Type 0} (eq : K → K → Bool) (laws : IsEquivalence eq) (div
 
 module _ {K V E : Type 0} (eq : K → K → Bool) (laws : IsEquivalence eq) where
   pub handed_given : HandedIsGiven K V E eq
-  handed_given division rules size tests s t es rs run n e r start value began is h v =
-      on_event eq laws division rules size tests s es rs run t n e r start value began is h v
+  handed_given division rules size built s t es rs run n e r start value began is h v =
+      on_event eq laws division rules size built s es rs run t n e r start value began is h v
 
   pub stepped_given : SteppedIsGiven K V E eq
-  stepped_given division rules size tests s t es rs run n turn start value began step v =
-      given_near eq laws division rules size tests s es rs run n turn start value began
-      (step_fair _ _ _ eq (given_ties eq laws division rules size tests s es rs run) s t n turn
-      (given_fair eq laws division rules size tests s es rs run) step).1 v
+  stepped_given division rules size built s t es rs run n turn start value began step v =
+      given_near eq laws division rules size built s es rs run n turn start value began
+      (step_fair _ _ _ eq (given_ties eq laws division rules size built s es rs run) s t n turn
+      (given_fair eq laws division rules size built s es rs run) step).1 v

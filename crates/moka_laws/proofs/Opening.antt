@@ -411,6 +411,7 @@ module _ {K V E : Type 0} where
     )
     on_item (plan.Scan there stored) rest e l h o =
         ((λ seen. quiet s n c _ h (λ g. cc)), λ unseen. goes_on s n c rest h)
+    on_item (plan.Register test) rest e l h o = quiet s n c _ refl (λ g. cc)
     on_item (plan.Reply a) rest e l h o = quiet s n c _ refl (λ g. cc)
     on_item (plan.Settle with) rest e l h o = goes_on s n c rest h
     on_item item rest e l h o = passes_on eq After s.world n c item rest tt
@@ -569,8 +570,8 @@ module _ {K V E : Type 0} (eq : K → K → Bool) where
 
   in_led : (s : State K V E) → IsReached eq s → AreLed s
   in_led s h =
-      follow eq AreLed led_followed (fresh K V E h.division h.rules h.size h.tests) s h.events h.replies (record {
-        reached = fresh_reached eq h.division h.divides h.rules h.size h.tests h.has_log;
+      follow eq AreLed led_followed (fresh K V E h.division h.rules h.size h.handed) s h.events h.replies (record {
+        reached = fresh_reached eq h.division h.divides h.rules h.size h.handed h.has_log;
         led = λ n c live. absurd (none_some live);
       }) h.run
 

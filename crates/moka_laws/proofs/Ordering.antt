@@ -28,7 +28,7 @@ use Rattle.moka_laws.proofs.Before.{Before, before_is, is_before, before_more, b
 use Rattle.moka_laws.proofs.Counting.{none_some, some_same, put_cases, put_here, put_there, differ, differ_not}
 use Rattle.moka_laws.proofs.Owning.{plan_left}
 use Rattle.moka_laws.proofs.Locking.{Locks}
-use Rattle.moka_laws.proofs.Plans.{IsTail, Answering, Settling, IsDrained, Looking, Putting, IsPosted, Draining, Ended, Locking, IsPlan, Posted, Drained, Posting, Hearing, Noticing, Listening, Unlocking, Turning, Applying, Ending, Judging, Owning, Giving, Reading, Asking, Telling, Writing, Removing, Locking_out, Choosing, Finding, Chosen, Taking, Freeing, Hiding, Idling, Asking_op, Owning_key, Owning_alone, Reading_key, Telling_op, Walking}
+use Rattle.moka_laws.proofs.Plans.{IsTail, Answering, Settling, IsDrained, Looking, Putting, IsPosted, Draining, Ended, Locking, IsPlan, Posted, Drained, Posting, Hearing, Noticing, Listening, Unlocking, Turning, Applying, Ending, Judging, Owning, Giving, Reading, Asking, Telling, Writing, Removing, Locking_out, Choosing, Finding, Chosen, Taking, Freeing, Hiding, Registering, Idling, Asking_op, Owning_key, Owning_alone, Reading_key, Telling_op, Walking}
 use Rattle.moka_laws.proofs.Replacing.{opens_notice, listening, not_opened, opened_committed, told_once}
 use Rattle.moka_laws.proofs.Rules.{fresh_plan}
 use Rattle.moka_laws.proofs.Noticing.{IsNoticing, noticing_kept, naming, running, drained_none, posted_none, misses_none, finds_none, keeps_none, hits_none, read_none, told_none, form_none, read_key_none, told_op_none, tail_none, walk_none, walks_none}
@@ -330,6 +330,8 @@ module _ {K V E : Type 0} where
         (locks p _ None e (λ h. h) (tail_none n c rest t))
     on_plan p e Hiding = outcomes eq (Made p) w n c plan.Invalidate_all (plan.Reply said_as.Done ∷ [])
         (quiet p _ e (λ h. h) refl)
+    on_plan p e (Registering test) = outcomes eq (Made p) w n c (plan.Register test) []
+        (quiet p _ e (λ h. h) refl)
     on_plan p e (Walking rest walk) = on_walk eq (Made p) w n c rest walk
         (λ listings stay next on. quiet p _ e (walk_hears p walk) (walks_none n c (ap (naming n) e ∙ walk_none n p walk) next on))
         (quiet p _ e (walk_hears p walk) refl)
@@ -611,9 +613,9 @@ module _ {K V E : Type 0} (eq : K → K → Bool) (laws : IsEquivalence eq) wher
 
   ordered_kept : IsInvariant {K = K} {V = V} {E = E} eq (IsOrdered eq)
   ordered_kept = record {
-    fresh = λ division divides rules size tests has_log. record {
-      noticing = (noticing_kept eq).fresh division divides rules size tests has_log;
-      sound = (sound_kept eq laws).fresh division divides rules size tests has_log;
+    fresh = λ division divides rules size built has_log. record {
+      noticing = (noticing_kept eq).fresh division divides rules size built has_log;
+      sound = (sound_kept eq laws).fresh division divides rules size built has_log;
       order = λ a b x y h e f same. absurd h;
       due = λ a b c x key old cause upsert rest live is e same. absurd (none_some live);
       hears = λ a c x live e r. absurd (none_some live);

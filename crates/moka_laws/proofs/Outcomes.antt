@@ -8,7 +8,7 @@ use Rattle.moka_hist.specs.State.{Call, Listed, TablePart, World, DeskPart}
 use Rattle.moka_hist.specs.Plan.{Item, Aim, Change, Removal, look, is_disabled}
 use Rattle.moka_hist.specs.Plan as plan
 use Rattle.moka_hist.specs.Causes.{chosen_holds}
-use Rattle.moka_hist.specs.Visits.{is_seen, cause_of, gave_back, decided, is_running, is_unlocked_for, locked_by, times_at, unlocked, with_notice, without_moment, first_of, holding_with, claimed, claimed_alone, claim_of, finds, has_room, is_free_for, settlement_for, readers_without, settled_without, stamped, judged, settled_as, opened, took_told, ended_turn, invalidated_all}
+use Rattle.moka_hist.specs.Visits.{is_seen, cause_of, gave_back, decided, is_running, is_unlocked_for, locked_by, times_at, unlocked, with_notice, without_moment, first_of, holding_with, claimed, claimed_alone, claim_of, finds, has_room, is_free_for, settlement_for, readers_without, settled_without, stamped, judged, settled_as, opened, took_told, ended_turn, invalidated_all, is_hit, registered_with, registering}
 use Rattle.moka_hist.specs.Tables.{GivesKeys, answer_of, begun, by_pair, removed, taken_by, written}
 use Rattle.moka_hist.specs.Bound.{times_of, stayed, decided_by, most_undecided}
 use Rattle.moka_hist.specs.Next.{Next, goes, stays, waits, gives, asks, answers}
@@ -18,6 +18,7 @@ use Rattle.moka_hist.specs.Looking.{misses, hits, keeps, finds_pair, after_get, 
 use Rattle.moka_hist.specs.Loading.{owner_rest, after_own, after_read, after_told}
 use Rattle.moka_hist.specs.Writing.{cause_handed, nothing_answer, nothing_rest, old_stamp, once_told, removed_answer, removed_rest, said, stamp_asked, after_out}
 use Rattle.moka_hist.specs.Entries.{unchanged}
+use Rattle.moka_hist.specs.Invalidating.{registering_answer}
 use Rattle.moka_hist.specs.Walking.{after_find, after_scan}
 use Rattle.moka_hist.specs.Computing.{compute_rest, report_rest, after_own_key, after_own_alone, after_read_key, after_told_op}
 use Rattle.moka_hist.specs.Step.{access_for, replace_of, takes_of}
@@ -139,9 +140,9 @@ module _ {K V E : Type 0} (eq : K → K → Bool) where
   taken_out w n key = record w { table = removed eq n w.table key; stay = decided_by n }
 
   -- the chosen record has still to leave for this cause
-  abbrev pub has_to_leave : DeskPart K V E → Stored V → Cause → Bool
-  has_to_leave d stored cause =
-      chosen_holds d.rules (times_at d stored.stamp stored.modified) false cause
+  abbrev pub has_to_leave : DeskPart K V E → K → Stored V → Cause → Bool
+  has_to_leave d there stored cause =
+      chosen_holds d.rules (times_at d stored.stamp stored.modified) (is_hit d there stored) cause
 
   -- M holds where the operation stays undecided once more
   abbrev pub Undecided : (World K V E → Next K V E → Type 0) → World K V E → ℕ → Call K V E → Type 0
@@ -244,9 +245,9 @@ module _ {K V E : Type 0} (eq : K → K → Bool) where
   Outcomes M w n c plan.Heard rest =
       (is_running w.desk n ≡ false → M w (goes c rest)) × (is_running w.desk n ≡ true → M w (waits c))
   Outcomes M w n c (plan.Holds key stamp cause there stored) rest =
-      (has_to_leave w.desk stored cause ≡ true →
+      (has_to_leave w.desk there stored cause ≡ true →
       M w (goes c (plan.Moment (plan.To_take_out (plan.To_evict_chosen stamp cause) key) ∷ []))) ×
-      (has_to_leave w.desk stored cause ≡ false → M w (keeps c))
+      (has_to_leave w.desk there stored cause ≡ false → M w (keeps c))
   Outcomes M w n c (plan.Moment (plan.To_store key value)) rest =
       M (on_desk w (stamped w.desk n)) (goes c (plan.Write key value w.desk.clock ∷ rest))
   Outcomes M w n c (plan.Moment (plan.To_take_out removal key)) rest =
@@ -277,6 +278,8 @@ module _ {K V E : Type 0} (eq : K → K → Bool) where
       plan.Post (Remove n old.stamp) ∷ said removal (removed_answer removal old.value))))
   Outcomes M w n c plan.Idle rest = M (on_desk w (gave_back w.desk n)) (goes c rest)
   Outcomes M w n c plan.Invalidate_all rest = M (on_desk w (invalidated_all w.desk)) (goes c rest)
+  Outcomes M w n c (plan.Register test) rest =
+      M (on_desk w (registered_with w.desk test)) (answers (registering_answer (registering w.desk)))
   Outcomes M w n c (plan.List_keys part) rest =
       let t : TablePart K V = begun w.table n (table_op.Keys part) in
       (times_of w.stay n < most_undecided w.table → M (record w { table = t; stay = stayed w.stay n }) (stays c)) ×
@@ -387,7 +390,7 @@ module _ {K V E : Type 0} (eq : K → K → Bool) where
 
     judged_so : (key : K) (stamp : ℕ) (cause : Cause) (there : K) (stored : Stored V)
         (rest : List (Item K V E))
-        (b : Bool) → has_to_leave w.desk stored cause ≡ b →
+        (b : Bool) → has_to_leave w.desk there stored cause ≡ b →
         Outcomes M w n c (plan.Holds key stamp cause there stored) rest →
         M w (after_holds c key stamp cause (found.Holds b))
     judged_so key stamp cause there stored rest true e o = o.0 e
@@ -523,7 +526,7 @@ module _ {K V E : Type 0} (eq : K → K → Bool) where
   outcomes M w n c (plan.Told_op compute pair) rest o =
       taken_op M w n c compute pair rest (w.desk.told n) refl o
   outcomes M w n c (plan.Holds key stamp cause there stored) rest o =
-      judged_so M w n c key stamp cause there stored rest (has_to_leave w.desk stored cause) refl o
+      judged_so M w n c key stamp cause there stored rest (has_to_leave w.desk there stored cause) refl o
   outcomes M w n c (plan.Moment (plan.To_store key value)) rest o = o
   outcomes M w n c (plan.Moment (plan.To_take_out removal key)) rest o = o
   outcomes M w n c (plan.Write key value moment) rest o =
@@ -536,6 +539,7 @@ module _ {K V E : Type 0} (eq : K → K → Bool) where
   )
   outcomes M w n c plan.Idle rest o = o
   outcomes M w n c plan.Invalidate_all rest o = o
+  outcomes M w n c (plan.Register test) rest o = o
   outcomes M w n c (plan.List_keys part) rest o = (o.0, λ answer t h. rw (h.5, h.4) (o.1 h.0 h.1 h.2 h.3))
   outcomes M w n c (plan.Find key) rest o =
       (o.0, λ answer t h. rw (h.1, h.0) (looked_up M w n c key rest (w.table.stored key) refl o))

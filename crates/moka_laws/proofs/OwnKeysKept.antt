@@ -72,7 +72,7 @@ module _ {K V E : Type 0} (eq : K → K → Bool) where
 
   kept : IsInvariant {K = K} {V = V} {E = E} eq (UnderOwnKeys {K = K} {V = V} {E = E} eq)
   kept = record {
-    fresh = λ division divides rules size tests has_log q p is. cc;
+    fresh = λ division divides rules size built has_log q p is. cc;
     at = λ s moment under. under;
     start = λ s start under. under;
     step = step_keeps;

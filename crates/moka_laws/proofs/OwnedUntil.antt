@@ -62,6 +62,7 @@ module _ {K V E : Type 0} (eq : K → K → Bool) (w : World K V E) (n : ℕ) (c
   on_item (plan.List_keys part) rest own f = (λ e. inl refl, λ listed keys is gives. inl refl)
   on_item (plan.Find key) rest own f = (λ e. inl refl, λ e. inl refl, λ k stored e. inl refl)
   on_item (plan.Scan there stored) rest own f = (λ e. inl refl, λ e. inl refl)
+  on_item (plan.Register test) rest own f = inl refl
   on_item (plan.Reply answer) rest own f = inl refl
   on_item (plan.Notice key old cause upsert) rest own f = (λ e. inl refl, λ e. inl refl)
   on_item (plan.Post write) rest own f = (λ e. inl refl, λ e. inl refl)

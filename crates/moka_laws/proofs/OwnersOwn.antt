@@ -130,9 +130,9 @@ module _ {K V E : Type 0} (eq : K → K → Bool) (laws : IsEquivalence eq) wher
 
   pub owners_own : (s : State K V E) → IsReached eq s →
       OwnersOwn s.world.desk.owners s.world.desk.owning
-  owners_own s h = (follow eq AreOwners owners_followed (fresh K V E h.division h.rules h.size h.tests) s
+  owners_own s h = (follow eq AreOwners owners_followed (fresh K V E h.division h.rules h.size h.handed) s
       h.events h.replies (record {
-        reached = fresh_reached eq h.division h.divides h.rules h.size h.tests h.has_log;
+        reached = fresh_reached eq h.division h.divides h.rules h.size h.handed h.has_log;
         own = λ n load e. absurd (none_some e);
       }) h.run).own
 

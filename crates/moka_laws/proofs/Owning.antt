@@ -456,6 +456,7 @@ module _ {K V E : Type 0} (eq : K → K → Bool) where
     )
     on_item (plan.Scan there stored) rest p o =
         ((λ seen. keeps refl (owns_none _ n rest o.later)), λ unseen. keeps refl (goes_none _ n c rest o.later))
+    on_item (plan.Register test) rest p o = keeps refl (owns_none _ n [] refl)
     on_item (plan.Reply answer) rest p o = keeps refl (owns_none _ n [] refl)
     on_item _ rest p o = keeps refl (goes_none _ n c rest o.later)
 
@@ -487,7 +488,7 @@ module _ {K V E : Type 0} (eq : K → K → Bool) (laws : IsEquivalence eq) wher
 
   owned_kept : IsInvariant eq (IsOwned {K = K} {V = V} {E = E} eq)
   owned_kept = record {
-    fresh = λ division divides rules size tests has_log. record { one_owner = λ a b e. refl; calls = λ n c live. absurd (none_some live) };
+    fresh = λ division divides rules size built has_log. record { one_owner = λ a b e. refl; calls = λ n c live. absurd (none_some live) };
     at = λ s moment i. record { one_owner = i.one_owner; calls = i.calls };
     start = λ s start i. record {
       one_owner = i.one_owner;

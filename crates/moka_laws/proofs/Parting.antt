@@ -310,6 +310,7 @@ module _ {K V E : Type 0} where
       λ seen. as_owed refl refl (moves (λ a e. cc) (λ x d. omega (arith, ap (weigh (post_of x)) e))),
       λ unseen. as_owed refl refl (goes_on (plan.Scan there stored) rest e),
     )
+    on_item (plan.Register test) rest e = as_owed refl refl (clear_parts owes n c.plan (λ x. refl) (λ a e. refl))
     on_item (plan.Reply reply) rest e = as_owed refl refl (clear_parts owes n c.plan (λ x. refl) (λ a e. refl))
     on_item (plan.Settle with) rest e = as_owed refl refl (goes_on (plan.Settle with) rest e)
     on_item item rest e = passes_by eq (Leaves w n c.plan) w n c item rest tt
@@ -412,7 +413,7 @@ module _ {K V E : Type 0} (eq : K → K → Bool) where
 
   alone_kept : IsInvariant eq (AreAlone {K = K} {V = V} {E = E})
   alone_kept = record {
-    fresh = λ division divides rules size tests has_log. record { balanced = (balanced_kept eq).fresh division divides rules size tests has_log; alone = λ n c live. absurd (none_some live) };
+    fresh = λ division divides rules size built has_log. record { balanced = (balanced_kept eq).fresh division divides rules size built has_log; alone = λ n c live. absurd (none_some live) };
     at = λ s moment i. record {
       balanced = (balanced_kept eq).at s moment i.balanced;
       alone = λ m d live. let a = i.alone m d live in record { owed = a.owed; others = a.others };

@@ -33,7 +33,7 @@ use Rattle.moka_laws.specs.Removals.{PlacesComeBack}
 use Rattle.moka_laws.proofs.Counting.{none_some, put_here, put_there}
 use Rattle.moka_laws.proofs.Holding.{HoldsAs, IsHolding, all_leave, holding_kept, others_hold}
 use Rattle.moka_laws.proofs.Owning.{plan_left}
-use Rattle.moka_laws.proofs.Plans.{IsTail, Answering, Settling, IsDrained, Looking, Putting, IsPosted, Draining, Ended, Locking, IsPlan, Posted, Drained, Posting, Hearing, Noticing, Listening, Unlocking, Turning, Applying, Ending, Judging, Owning, Giving, Reading, Asking, Telling, Writing, IsLook, Removing, Locking_out, Choosing, Finding, Chosen, Taking, Freeing, Hiding, Idling, AllKnown, known_kept, Asking_op, Owning_key, Owning_alone, Reading_key, Telling_op, Walking}
+use Rattle.moka_laws.proofs.Plans.{IsTail, Answering, Settling, IsDrained, Looking, Putting, IsPosted, Draining, Ended, Locking, IsPlan, Posted, Drained, Posting, Hearing, Noticing, Listening, Unlocking, Turning, Applying, Ending, Judging, Owning, Giving, Reading, Asking, Telling, Writing, IsLook, Removing, Locking_out, Choosing, Finding, Chosen, Taking, Freeing, Hiding, Registering, Idling, AllKnown, known_kept, Asking_op, Owning_key, Owning_alone, Reading_key, Telling_op, Walking}
 use Rattle.moka_laws.proofs.Rules.{abort_next, put_plans, chosen_next, kept_next, loaded_plans, IsFresh, Disabled, fresh_plan, read_key_next, told_op_next, Walks_over}
 use Rattle.moka_laws.proofs.Kept.{IsInvariant, in_reached}
 use Rattle.moka_laws.proofs.StepCases.{OnStep, step_cases}
@@ -266,6 +266,7 @@ module _ {K V E : Type 0} where
     on_plan p e k (Freeing rest t) = outcomes eq After w n c (plan.Unlock false) rest
         (tail_pends _ c rest t)
     on_plan p e k Hiding = outcomes eq After w n c plan.Invalidate_all (plan.Reply reply.Done ∷ []) tt
+    on_plan p e k (Registering test) = outcomes eq After w n c (plan.Register test) [] tt
     on_plan p e k (Walking rest walk) = on_walk eq After w n c rest walk
         (λ listings stay next on. walks_pend _ c (subst (Pends (w.desk.holding n)) (sym e) (walk_pends _ p walk)) next on) tt
     on_plan p e k (Idling rest t) = outcomes eq After w n c plan.Idle rest (tail_pends _ c rest t)
@@ -317,9 +318,9 @@ module _ {K V E : Type 0} (eq : K → K → Bool) where
 
   placed_kept : IsInvariant eq IsPlaced
   placed_kept = record {
-    fresh = λ division divides rules size tests has_log. record {
-      holding = (holding_kept eq).fresh division divides rules size tests has_log;
-      known = (known_kept eq).fresh division divides rules size tests has_log;
+    fresh = λ division divides rules size built has_log. record {
+      holding = (holding_kept eq).fresh division divides rules size built has_log;
+      known = (known_kept eq).fresh division divides rules size built has_log;
       pends = λ n. tt;
     };
     at = λ s moment i.

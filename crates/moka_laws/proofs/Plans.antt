@@ -27,7 +27,7 @@ use Rattle.moka_hist.specs.declared.visits.Settled.{Settled}
 use Rattle.moka_hist.specs.declared.visits.Settled.TheVariants as settled
 use Rattle.moka_hist.specs.declared.visits.Found.TheVariants as found
 use Rattle.moka_hist.specs.declared.writes.Write as write
-use Rattle.moka_laws.proofs.Rules.{put_plans, loaded_plans, kept_next, chosen_next, read_key_next, told_op_next, IsFresh, Disabled, Gets, Loads, Owns, Computes, Computes_alone, Finds_or_puts, Gives_back, Puts, Locks_and_puts, Takes_out, Locks_and_takes_out, Evicts, Invalidates_all, Walks_over, Locks_and_evicts, fresh_plan}
+use Rattle.moka_laws.proofs.Rules.{put_plans, loaded_plans, kept_next, chosen_next, read_key_next, told_op_next, IsFresh, Disabled, Gets, Loads, Owns, Computes, Computes_alone, Finds_or_puts, Gives_back, Puts, Locks_and_puts, Takes_out, Locks_and_takes_out, Evicts, Invalidates_all, Registers, Walks_over, Locks_and_evicts, fresh_plan}
 use Rattle.moka_laws.proofs.StepCases.{OnStep, step_cases}
 use Rattle.moka_laws.proofs.Outcomes.{alone_of, outcomes, OwnsKey}
 use Rattle.moka_laws.proofs.Walks.{IsWalk, Walks, Walks_giving, Walks_on, Walks_still, on_walk, walk_is_walk}
@@ -110,6 +110,7 @@ module _ {K V E : Type 0} where
     Freeing : (rest : List (Item K V E)) → IsTail rest → IsPlan (plan.Unlock false ∷ rest)
     Idling : (rest : List (Item K V E)) → IsTail rest → IsPlan (plan.Idle ∷ rest)
     Hiding : IsPlan (plan.Invalidate_all ∷ plan.Reply answer.Done ∷ [])
+    Registering : (test : ℕ) → IsPlan (plan.Register test ∷ [])
     Walking : (rest : List (Item K V E)) → IsWalk rest → IsPlan rest
 
   -- the call's plan has one of these forms, and it has not given up yet
@@ -222,6 +223,7 @@ module _ {K V E : Type 0} where
   fresh_form rules p (Locks_and_takes_out removal key on named) =
       Posted _ (Draining _ (Locking_out removal key))
   fresh_form rules p Invalidates_all = Hiding
+  fresh_form rules p (Registers test) = Registering test
   fresh_form rules p (Walks_over parts able) = Walking _ (walk_is_walk 0 parts)
   fresh_form rules p (Evicts key stamp cause off) = Finding key stamp cause
   fresh_form rules p (Locks_and_evicts key stamp cause on) = Choosing key stamp cause
@@ -370,6 +372,7 @@ module _ {K V E : Type 0} where
     on_plan p (Freeing rest t) = outcomes eq Leaves w n c (plan.Unlock false) rest
         (goes_known c rest h.young (Posted _ (Ended _ t)))
     on_plan p Hiding = outcomes eq Leaves w n c plan.Invalidate_all (plan.Reply answer.Done ∷ []) tt
+    on_plan p (Registering test) = outcomes eq Leaves w n c (plan.Register test) [] tt
     on_plan p (Walking rest walk) = on_walk eq Leaves w n c rest walk (λ listings stay next on. walks_known next on) tt
     on_plan p (Idling rest t) = outcomes eq Leaves w n c plan.Idle rest
         (goes_known c rest h.young (Posted _ (Ended _ t)))
@@ -391,7 +394,7 @@ module _ {K V E : Type 0} (eq : K → K → Bool) where
 
   pub known_kept : IsInvariant eq AllKnown
   known_kept = record {
-    fresh = λ division divides rules size tests has_log n c live. absurd (none_some live);
+    fresh = λ division divides rules size built has_log n c live. absurd (none_some live);
     at = λ s moment all. all;
     start = λ s start all n c live.
         put_cases s.calls (s.world.desk.last + 1) (Some (fresh_call s.world.table.division.parts s.world.desk.rules start)) n (Some c) (IsKnown c) live

@@ -1,6 +1,6 @@
 -- Which states a run can reach, and how a run goes on.
 use Rattle.std.proofs.Common.{◌<◌, ℕ, zero, suc, Bool, List, [], ◌∷◌, ◌++◌, refl, sym, subst}
-use Rattle.moka_hist.specs.State.{Division, State, fresh}
+use Rattle.moka_hist.specs.State.{Division, State, fresh, Handed}
 use Rattle.moka_hist.specs.Step.{Step}
 use Rattle.moka_hist.specs.Run.{Divides, Goings, Steps, Happens, Run, Any, IsReached, reply_of}
 use Rattle.moka_hist.specs.declared.rules.Rules.{Rules}
@@ -10,8 +10,8 @@ use Rattle.moka_hist.specs.declared.replies.Reply.{Reply}
 use Rattle.moka_hist.specs.declared.accesses.Turn.{Turn}
 
 module _ {K V E : Type 0} (eq : K → K → Bool) where
-  pub fresh_reached : (division : Division K) → Divides eq division → (rules : Rules) (size : ℕ) (tests : ℕ → K → V → Bool) → 0 < size → IsReached {K = K} {V = V} {E = E} eq (fresh K V E division rules size tests)
-  fresh_reached division divides rules size tests has_log = record { division = division; divides = divides; rules = rules; size = size; tests = tests; has_log = has_log; events = []; replies = []; run = refl }
+  pub fresh_reached : (division : Division K) → Divides eq division → (rules : Rules) (size : ℕ) (built : Handed K V) → 0 < size → IsReached {K = K} {V = V} {E = E} eq (fresh K V E division rules size built)
+  fresh_reached division divides rules size built has_log = record { division = division; divides = divides; rules = rules; size = size; handed = built; has_log = has_log; events = []; replies = []; run = refl }
 
   -- a run goes on by one event at its end, through states that meet P
   pub go_on : (P : State K V E → Type 0) (s m t : State K V E) (es : List (Event K V E)) (rs : List (Reply K V E)) (e : Event K V E) (r : Reply K V E) →
@@ -27,11 +27,11 @@ module _ {K V E : Type 0} (eq : K → K → Bool) where
     divides = h.divides;
     rules = h.rules;
     size = h.size;
-    tests = h.tests;
+    handed = h.handed;
     has_log = h.has_log;
     events = h.events ++ e ∷ [];
     replies = h.replies ++ r ∷ [];
-    run = go_on Any (fresh K V E h.division h.rules h.size h.tests) s t h.events h.replies e r h.run step tt;
+    run = go_on Any (fresh K V E h.division h.rules h.size h.handed) s t h.events h.replies e r h.run step tt;
   }
 
   pub step_reached : (s t : State K V E) (n : ℕ) (turn : Turn K V E) → IsReached eq s → Step eq s n turn t → IsReached eq t

@@ -43,7 +43,7 @@ use Rattle.moka_laws.proofs.Balance.{IsBalanced, times_first}
 use Rattle.moka_laws.proofs.Balanced.{balanced_kept, next_free}
 use Rattle.moka_laws.proofs.Locking.{IsLocking, locking_kept, of_key}
 use Rattle.moka_laws.proofs.Owning.{plan_left}
-use Rattle.moka_laws.proofs.Plans.{IsTail, Answering, Settling, IsDrained, Looking, Putting, IsPosted, Draining, Ended, Locking, IsPlan, Posted, Drained, Posting, Hearing, Noticing, Listening, Unlocking, Turning, Applying, Ending, Judging, Owning, Giving, Reading, Asking, Telling, Writing, IsKnown, known_kept, IsLook, Removing, Locking_out, Choosing, Finding, Chosen, Taking, Freeing, Hiding, Idling, Asking_op, Owning_key, Owning_alone, Reading_key, Telling_op, Walking}
+use Rattle.moka_laws.proofs.Plans.{IsTail, Answering, Settling, IsDrained, Looking, Putting, IsPosted, Draining, Ended, Locking, IsPlan, Posted, Drained, Posting, Hearing, Noticing, Listening, Unlocking, Turning, Applying, Ending, Judging, Owning, Giving, Reading, Asking, Telling, Writing, IsKnown, known_kept, IsLook, Removing, Locking_out, Choosing, Finding, Chosen, Taking, Freeing, Hiding, Registering, Idling, Asking_op, Owning_key, Owning_alone, Reading_key, Telling_op, Walking}
 use Rattle.moka_laws.proofs.Rules.{abort_next, put_plans, loaded_plans, kept_next, chosen_next, IsFresh, Disabled, fresh_plan, read_key_next, told_op_next, Walks_over}
 use Rattle.moka_laws.proofs.Kept.{IsInvariant, in_reached}
 use Rattle.moka_laws.proofs.StepCases.{OnStep, step_cases}
@@ -582,6 +582,9 @@ module _ {K V E : Type 0} where
     on_plan p e Hiding = outcomes eq (Made p) w n c plan.Invalidate_all (plan.Reply said_as.Done ∷ [])
         (clears eq w n c p refl refl refl (record { swaps = λ x. refl; notice = refl }) refl
         (λ x. refl) (λ x. refl))
+    on_plan p e (Registering test) = outcomes eq (Made p) w n c (plan.Register test) []
+        (clears eq w n c p refl refl refl (record { swaps = λ x. refl; notice = refl }) refl
+        (λ x. refl) (λ x. refl))
     on_plan p e (Walking rest walk) =
         let light : (x : ℕ) → IsLight {K = K} {V = V} {E = E} (swap_of x) = λ x. (record { list = λ part. refl; find = λ key. refl; scan = λ there stored. refl; end = refl }) in
         let told : IsLight {K = K} {V = V} {E = E} notice_of = (record { list = λ part. refl; find = λ key. refl; scan = λ there stored. refl; end = refl }) in
@@ -799,10 +802,10 @@ module _ {K V E : Type 0} (eq : K → K → Bool) where
 
   pub replacing_kept : IsInvariant eq (IsReplacing {K = K} {V = V} {E = E})
   replacing_kept = record {
-    fresh = λ division divides rules size tests has_log. record {
-      balanced = (balanced_kept eq).fresh division divides rules size tests has_log;
-      locking = (locking_kept eq).fresh division divides rules size tests has_log;
-      known = (known_kept eq).fresh division divides rules size tests has_log;
+    fresh = λ division divides rules size built has_log. record {
+      balanced = (balanced_kept eq).fresh division divides rules size built has_log;
+      locking = (locking_kept eq).fresh division divides rules size built has_log;
+      known = (known_kept eq).fresh division divides rules size built has_log;
       mid = λ n c live. absurd (none_some live);
       quiet = λ off x. refl;
       each = λ on x. omega (arith, sum_zero (λ n. 0));

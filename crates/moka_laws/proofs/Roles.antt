@@ -45,6 +45,7 @@ module _ {K V E : Type 0} where
   IsLast (plan.Holds key stamp cause there stored ∷ rest) = rest ≡ []
   IsLast (plan.Moment (plan.To_take_out removal key) ∷ rest) = rest ≡ []
   IsLast (plan.Out removal key ∷ rest) = rest ≡ []
+  IsLast (plan.Register test ∷ rest) = rest ≡ []
   IsLast (plan.Reply answer ∷ rest) = rest ≡ []
   IsLast (_ ∷ rest) = IsLast rest
 

@@ -1,7 +1,8 @@
 -- How plans depend on the rules of the cache.
-use Rattle.std.proofs.Common.{◌≡◌, ℕ, ◌+◌, ◌==◌, refl, Bool, true, false, cond, List, [], ◌∷◌, Option, Some, None}
+use Rattle.std.proofs.Common.{◌≡◌, ℕ, ◌+◌, ◌==◌, refl, Bool, true, false, cond, List, [], ◌∷◌, Option, Some, None, Result, Ok, Err}
 use Rattle.std.specs.Option.{option_map}
 use Rattle.std.proofs.lemmas.Bool.{eqb-true}
+use Rattle.moka_hist.specs.Invalidating.{registering_answer}
 use Rattle.moka_hist.specs.State.{Call}
 use Rattle.moka_hist.specs.Next.{Next, goes, answers, waits}
 use Rattle.moka_hist.specs.Entries.{put_answer, unchanged}
@@ -11,6 +12,8 @@ use Rattle.moka_hist.specs.Computing.{after_read_key, after_told_op, end_compute
 use Rattle.moka_hist.specs.Looking.{shown, keeps, kept_rest, finds_pair, chosen_or_not}
 use Rattle.moka_hist.specs.Plan.{Item, Aim, Shown, Removal, put, under_lock, take_out, is_disabled, told_on, load_rest, loaded, get_plan, insert_plan, load_plan, or_insert_plan, iter_plan, seek, plan_of, walk_from}
 use Rattle.moka_hist.specs.Plan as plan
+use Rattle.moka_hist.specs.declared.predicates.PredicateError.{PredicateError}
+use Rattle.moka_hist.specs.declared.predicates.PredicateError.TheVariants as refused
 use Rattle.moka_hist.specs.declared.events.Start.{Start}
 use Rattle.moka_hist.specs.declared.events.Start.TheVariants as start
 use Rattle.moka_hist.specs.declared.events.Op.TheVariants as op
@@ -287,6 +290,13 @@ IsAtOnce answer.End = Unit {0}
 IsAtOnce (answer.Loaded value fresh) = Unit {0}
 IsAtOnce _ = ⊥
 
+pub registering_plain : (K V E : Type 0) (registering : Result ℕ PredicateError) →
+    IsPlain (registering_answer {K = K} {V = V} {E = E} registering)
+registering_plain K V E (Ok id) = tt
+registering_plain K V E (Err refused.InvalidationClosuresDisabled) = tt
+registering_plain K V E (Err refused.NoId) = tt
+registering_plain K V E (Err refused.Memory) = tt
+
 pub once_plain : {K V E : Type 0} (a : Answer K V E) → IsAtOnce a → IsPlain a
 once_plain answer.Nothing once = absurd once
 once_plain (answer.InitErr error) once = absurd once
@@ -330,6 +340,7 @@ module _ {K V E : Type 0} where
         IsStarted removal →
         IsFresh rules (plan.Drain ∷ plan.Lock key ∷ plan.Moment (plan.To_take_out removal key) ∷ [])
     Invalidates_all : IsFresh rules (plan.Invalidate_all ∷ plan.Reply answer.Done ∷ [])
+    Registers : (test : ℕ) → IsFresh rules (plan.Register test ∷ [])
     Walks_over : (parts : ℕ) → is_disabled rules ≡ false → IsFresh rules (walk_from 0 parts)
     Evicts : (key : K) (stamp : _) (cause : Cause) → rules.listener ≡ false →
         IsFresh rules (plan.Get (plan.To_evict key stamp cause) key ∷ [])
@@ -374,6 +385,7 @@ module _ {K V E : Type 0} where
   fresh_plan parts rules (start.Invalidate key) = takes_out rules plan.To_invalidate key tt
   fresh_plan parts rules (start.Remove key) = takes_out rules plan.To_remove key tt
   fresh_plan parts rules start.InvalidateAll = Invalidates_all
+  fresh_plan parts rules (start.InvalidateIf test) = Registers test
   fresh_plan parts rules start.Iter = by (is_disabled rules) refl
     where
       by : (b : Bool) → is_disabled rules ≡ b → IsFresh rules (iter_plan b parts)

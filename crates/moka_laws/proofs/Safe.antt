@@ -69,14 +69,14 @@ module _ {K V E : Type 0} (eq : K → K → Bool) where
 
   pub well_kept : IsInvariant eq IsWell
   well_kept = record {
-    fresh = λ division divides rules size tests has_log. record {
-      holding = (holding_kept eq).fresh division divides rules size tests has_log;
-      served = (served_kept eq).fresh division divides rules size tests has_log;
-      fitting = (fitting_kept eq).fresh division divides rules size tests has_log;
-      unsettled = (unsettled_kept eq).fresh division divides rules size tests has_log;
-      asking = (asking_kept eq).fresh division divides rules size tests has_log;
-      turning = (turning_kept eq).fresh division divides rules size tests has_log;
-      replacing = (replacing_kept eq).fresh division divides rules size tests has_log;
+    fresh = λ division divides rules size built has_log. record {
+      holding = (holding_kept eq).fresh division divides rules size built has_log;
+      served = (served_kept eq).fresh division divides rules size built has_log;
+      fitting = (fitting_kept eq).fresh division divides rules size built has_log;
+      unsettled = (unsettled_kept eq).fresh division divides rules size built has_log;
+      asking = (asking_kept eq).fresh division divides rules size built has_log;
+      turning = (turning_kept eq).fresh division divides rules size built has_log;
+      replacing = (replacing_kept eq).fresh division divides rules size built has_log;
     };
     at = λ s moment i. record {
       holding = (holding_kept eq).at s moment i.holding;

@@ -149,9 +149,9 @@ module _ {K V E : Type 0} (eq : K → K → Bool) where
 
   pub served_kept : IsInvariant eq IsServed
   served_kept = record {
-    fresh = λ division divides rules size tests has_log. record {
-      balanced = (balanced_kept eq).fresh division divides rules size tests has_log;
-      answering = (answering_kept eq).fresh division divides rules size tests has_log;
+    fresh = λ division divides rules size built has_log. record {
+      balanced = (balanced_kept eq).fresh division divides rules size built has_log;
+      answering = (answering_kept eq).fresh division divides rules size built has_log;
       fits = λ n. record { last = tt; owning = refl; waiting = refl };
       owner = λ load o e. absurd (none_some e);
       counted = λ o. sym (sum_zero (λ m. 0));

@@ -267,6 +267,9 @@ module _ {K V E : Type 0} (eq : K → K → Bool) (w : World K V E) (n : ℕ) (c
     λ seen. goes_with _ (like rest _ q q.fits.last (omega arith) refl),
     λ unseen. goes_rest rest (like rest _ q q.fits.last (omega arith) refl),
   )
+  on_item (plan.Register test) rest p q =
+      let f = alone (plan.Register test) rest q.fits.last q in
+      goes_free (record { last = tt; owning = omega (arith, f.owning); waiting = f.waiting }) refl
   on_item (plan.Reply answer) rest p q =
       let f = alone (plan.Reply answer) rest q.fits.last q in
       goes_free (record { last = tt; owning = omega (arith, f.owning); waiting = f.waiting }) refl

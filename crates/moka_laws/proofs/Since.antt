@@ -228,6 +228,7 @@ module _ {K V E : Type 0} where
     )
     asks_fewer (plan.Scan there stored) rest e =
         ((λ seen. omega arith), λ unseen. omega (arith, goes_tests c rest))
+    asks_fewer (plan.Register test) rest e = omega arith
     asks_fewer (plan.Reply a) rest e = omega arith
     asks_fewer item rest e = passes_on eq (Fewer (item ∷ rest)) w n c item rest tt
         (λ d. omega (arith, goes_tests c rest)) (omega (arith, ap (weigh tests) e))
@@ -384,6 +385,7 @@ module _ {K V E : Type 0} where
       λ k stored some. as_often c _ _ refl refl,
     )
     counts (plan.Scan there stored) rest = ((λ seen. as_often c _ _ refl refl), λ unseen. goes_counts c rest)
+    counts (plan.Register test) rest = λ d e. absurd (none_some e)
     counts (plan.Reply a) rest = λ d e. absurd (none_some e)
     counts (plan.Notice key old cause upsert) rest =
         (λ e. goes_counts c rest, λ e. as_often c _ _ refl refl)

@@ -43,7 +43,7 @@ module _ {K V E : Type 0} (eq : K → K → Bool) (laws : IsEquivalence eq) wher
 
   pub sound_kept : IsInvariant {K = K} {V = V} {E = E} eq (IsSound eq)
   sound_kept = record {
-    fresh = λ division divides rules size tests has_log. record { well = (well_kept eq).fresh division divides rules size tests has_log; sound = fresh_sound eq rules size tests };
+    fresh = λ division divides rules size built has_log. record { well = (well_kept eq).fresh division divides rules size built has_log; sound = fresh_sound eq rules size built };
     at = λ s moment i. record { well = (well_kept eq).at s moment i.well; sound = clock_sound eq s.world.desk moment i.sound };
     start = λ s start i. record { well = (well_kept eq).start s start i.well; sound = entered_sound eq s.world.desk _ i.sound };
     step = λ s t n turn i step. record {

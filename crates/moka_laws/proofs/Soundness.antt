@@ -201,7 +201,7 @@ module _ {K V E : Type 0} where
     -- ---- each visit, in the order of their conditions
 
     pub fresh_sound : FreshIsSound K V E eq
-    fresh_sound rules size tests = record {
+    fresh_sound rules size built = record {
       once = λ x. omega arith;
       held_apart = λ n h e. absurd (none_some e);
       one_holder = λ n m g h e f k. absurd (none_some e);

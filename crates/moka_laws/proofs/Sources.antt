@@ -1,6 +1,7 @@
 -- What a call answers, and where that comes from: its own plan, or how its owner ended.
 use Rattle.std.proofs.Common.{◌≡◌, ℕ, ◌+◌, ◌==◌, Bool, true, false, List, [], ◌∷◌, Some, None, IsSomeAnd, ◌⊎◌, inl, inr, refl, sym, ap, ◌∙◌, subst, Option, map, ◌++◌}
 use Rattle.std.proofs.lemmas.Bool.{eqb-true, eq-eqb}
+use Rattle.moka_hist.specs.Invalidating.{registering_answer}
 use Rattle.moka_hist.specs.State.{State, World, Call, DeskPart}
 use Rattle.moka_hist.specs.Plan.{Item, Aim, Removal, end_load}
 use Rattle.moka_hist.specs.Writing.{nothing_answer, removed_answer, said}
@@ -9,7 +10,7 @@ use Rattle.moka_hist.specs.Next.{Next, goes, waits}
 use Rattle.moka_hist.specs.Looking.{shown, hits, misses, keeps, finds_pair}
 use Rattle.moka_hist.specs.Loading.{after_read, after_abort, after_told, retries}
 use Rattle.moka_hist.specs.Step.{Step}
-use Rattle.moka_hist.specs.Visits.{settlement_for}
+use Rattle.moka_hist.specs.Visits.{settlement_for, registering}
 use Rattle.moka_hist.specs.Run.{IsReached, fresh_call}
 use Rattle.moka_hist.specs.declared.accesses.Turn.{Turn}
 use Rattle.moka_hist.specs.declared.accesses.Turn.TheVariants as turn
@@ -34,7 +35,7 @@ use Rattle.moka_laws.proofs.TakesFit.{ItemTakes, AllTake}
 use Rattle.moka_laws.proofs.Kept.{IsInvariant, in_reached}
 use Rattle.moka_laws.proofs.Owning.{plan_left}
 use Rattle.moka_laws.proofs.Roles.{IsLast}
-use Rattle.moka_laws.proofs.Rules.{IsPlain, once_plain, shown_next, put_plans, loaded_plans, kept_next, chosen_next, IsFresh, Disabled, Gives_back, fresh_plan, read_key_next, told_op_next_by, IsLoad, IsComputed, unchanged_computed, put_computed, Walks_over}
+use Rattle.moka_laws.proofs.Rules.{IsPlain, once_plain, registering_plain, shown_next, put_plans, loaded_plans, kept_next, chosen_next, IsFresh, Disabled, Gives_back, fresh_plan, read_key_next, told_op_next_by, IsLoad, IsComputed, unchanged_computed, put_computed, Walks_over}
 use Rattle.moka_laws.proofs.Safe.{IsWell, well_kept}
 use Rattle.moka_laws.proofs.StepCases.{OnStep, step_cases}
 use Rattle.moka_laws.proofs.Outcomes.{Outcomes, outcomes, computes_of, passes_by}
@@ -393,6 +394,8 @@ module _ {K V E : Type 0} where
     )
     on_item (plan.Scan there stored) rest e l q f t =
         ((λ seen. on w.desk n c _ (λ b h. cc) q), λ unseen. passes rest q)
+    on_item (plan.Register test) rest e l q f t =
+        plainly w.desk n c (registering_answer (registering w.desk)) _ refl refl (registering_plain K V E (registering w.desk))
     on_item (plan.Reply a) rest e l q f t = plainly w.desk n c a _ refl refl q
     on_item item rest e l q f t = passes_by eq After w n c item rest tt
         (λ d a. subst (λ o. Leaves w.desk n c o (goes c rest)) (sym a.owning) (passes rest q)) parks
@@ -440,8 +443,8 @@ module _ {K V E : Type 0} (eq : K → K → Bool) where
 
   true_kept : IsInvariant eq IsTrue
   true_kept = record {
-    fresh = λ division divides rules size tests has_log. record {
-      well = (well_kept eq).fresh division divides rules size tests has_log;
+    fresh = λ division divides rules size built has_log. record {
+      well = (well_kept eq).fresh division divides rules size built has_log;
       says = λ n c live. absurd (none_some live);
     };
     at = λ s moment i. record { well = (well_kept eq).at s moment i.well; says = i.says };

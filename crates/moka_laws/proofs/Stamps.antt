@@ -199,8 +199,8 @@ module _ {K V E : Type 0} (eq : K → K → Bool) where
 
   pub stamped_kept : IsEquivalence eq → IsInvariant eq IsStamped
   stamped_kept laws = record {
-    fresh = λ division divides rules size tests has_log. record {
-      balanced = (balanced_kept eq).fresh division divides rules size tests has_log;
+    fresh = λ division divides rules size built has_log. record {
+      balanced = (balanced_kept eq).fresh division divides rules size built has_log;
       stamped = record {
         named = λ q p e. absurd (none_some e);
         one = λ q r p o e f same. absurd

@@ -298,6 +298,7 @@ module _ {K V E : Type 0} where
     )
     on_calm (plan.Scan there found) rest e p q i =
         (λ seen. inl (omega (arith, q)), λ unseen. goes_on _ rest (omega (arith, q)))
+    on_calm (plan.Register test) rest e p q i = tt
     on_calm (plan.Reply a) rest e p q i = tt
     on_calm item rest e p q i =
         passes_on eq After w n c item rest tt (λ d. goes_on _ rest (omega (arith, q))) (inl p)
@@ -458,8 +459,8 @@ module _ {K V E : Type 0} (eq : K → K → Bool) (laws : IsEquivalence eq) wher
 
   standing_kept : IsInvariant eq IsStanding
   standing_kept = record {
-    fresh = λ division divides rules size tests has_log. record {
-      sound = (sound_kept eq laws).fresh division divides rules size tests has_log;
+    fresh = λ division divides rules size built has_log. record {
+      sound = (sound_kept eq laws).fresh division divides rules size built has_log;
       stands = λ on n c live. absurd (none_some live);
     };
     at = λ s moment i. record {

@@ -1,6 +1,8 @@
 -- A call whose answer says that it has stored a value has committed its write.
-use Rattle.std.proofs.Common.{◌≡◌, ℕ, ◌+◌, ◌≤◌, ◌==◌, Bool, true, false, cond, List, [], ◌∷◌, ◌++◌, Some, None, refl, sym, ap, ◌∙◌, subst, arith, Option, map}
+use Rattle.std.proofs.Common.{◌≡◌, ℕ, ◌+◌, ◌≤◌, ◌==◌, Bool, true, false, cond, List, [], ◌∷◌, ◌++◌, Some, None, refl, sym, ap, ◌∙◌, subst, arith, Option, map, Result, Ok, Err}
 use Rattle.std.proofs.lemmas.Bool.{eqb-true, false≢true}
+use Rattle.moka_hist.specs.Visits.{registering}
+use Rattle.moka_hist.specs.Invalidating.{registering_answer}
 use Rattle.moka_hist.specs.Plan.{or_insert_plan, seek}
 use Rattle.moka_hist.specs.Finite.{times}
 use Rattle.moka_hist.specs.State.{State, World, Call}
@@ -11,6 +13,8 @@ use Rattle.moka_hist.specs.Looking.{shown, hits, misses, finds_pair}
 use Rattle.moka_hist.specs.Loading.{after_read, after_told, after_abort, retries}
 use Rattle.moka_hist.specs.Step.{Step}
 use Rattle.moka_hist.specs.Run.{fresh_call, started}
+use Rattle.moka_hist.specs.declared.predicates.PredicateError.{PredicateError}
+use Rattle.moka_hist.specs.declared.predicates.PredicateError.TheVariants as refused
 use Rattle.moka_hist.specs.declared.accesses.Turn.{Turn}
 use Rattle.moka_hist.specs.declared.accesses.Turn.TheVariants as turns
 use Rattle.moka_hist.specs.declared.rules.Rules.{Rules}
@@ -86,6 +90,13 @@ unchanged_stores : {K V : Type 0} (E : Type 0) (begun : Start K V) (key : K)
     (pair : Option (K × V)) → stored begun (unchanged {E = E} key pair) ≡ 0
 unchanged_stores E begun key None = stores_none begun _ refl refl refl
 unchanged_stores E begun key (Some pair) = stores_none begun _ refl refl refl
+
+registering_stores : {K V : Type 0} (E : Type 0) (begun : Start K V) (registering : Result ℕ PredicateError) →
+    stored begun (registering_answer {E = E} registering) ≡ 0
+registering_stores E begun (Ok id) = stores_none begun _ refl refl refl
+registering_stores E begun (Err refused.InvalidationClosuresDisabled) = stores_none begun _ refl refl refl
+registering_stores E begun (Err refused.NoId) = stores_none begun _ refl refl refl
+registering_stores E begun (Err refused.Memory) = stores_none begun _ refl refl refl
 
 -- 1 where a call was started to take a record out so
 abbrev for_out : {K : Type 0} → Removal K → ℕ
@@ -463,6 +474,12 @@ module _ {K V E : Type 0} (begun : Start K V) where
       (λ seen. record { left = omega (arith, q.says); plain = omega (arith, q.plain); now = λ b e. cc }),
       λ unseen. goes_says _ c rest (omega (arith, q.says)) (omega (arith, q.plain)),
     )
+    on_item (plan.Register test) rest l p q = record {
+      left = omega arith;
+      plain = refl;
+      now = λ b e. omega
+          (arith, registering_stores E begun (registering w.desk), ap (stored begun) (same_answer _ b e));
+    }
     on_item (plan.Reply a) rest l p q =
         let alone = subst (λ v. weigh says (plan.Reply a ∷ v) ≤ weigh makes
         (plan.Reply a ∷ v) + times n w.table.committed) l q.says in

@@ -360,6 +360,7 @@ module _ {K V E : Type 0} where
     )
     on_item (plan.Scan there stored) rest q =
         ((λ seen. as_was refl refl q.1), λ unseen. goes_on rest refl refl q.1)
+    on_item (plan.Register test) rest q = as_was refl refl tt
     on_item (plan.Reply a) rest q = as_was refl refl tt
     on_item (plan.Settle with) rest q = goes_on rest refl refl q.1
     on_item item rest q = passes_by eq (Leaves w n) w n c item rest tt
@@ -418,7 +419,7 @@ module _ {K V E : Type 0} (eq : K → K → Bool) where
 
   pub taking_kept : IsInvariant eq (IsTaking {K = K} {V = V} {E = E})
   taking_kept = record {
-    fresh = λ division divides rules size tests has_log. record { take = λ n c live. absurd (none_some live) };
+    fresh = λ division divides rules size built has_log. record { take = λ n c live. absurd (none_some live) };
     at = λ s moment i. record { take = i.take };
     start = taking_start;
     step = taking_step;

@@ -321,6 +321,7 @@ module _ {K V E : Type 0} where
         )
     on_item (plan.Scan there stored) rest e q =
         ((λ seen. calm _ n q.first q.has), λ unseen. calm _ n (goes_calm c rest q.first) q.has)
+    on_item (plan.Register test) rest e q = calm _ n refl q.has
     on_item (plan.Reply answer) rest e q = calm _ n refl q.has
     on_item _ rest e q = calm _ n (goes_calm c rest q.first) q.has
 
@@ -368,8 +369,8 @@ module _ {K V E : Type 0} (eq : K → K → Bool) where
 
   pub turning_kept : IsInvariant eq (IsTurning {K = K} {V = V} {E = E})
   turning_kept = record {
-    fresh = λ division divides rules size tests has_log. record {
-      balanced = (balanced_kept eq).fresh division divides rules size tests has_log;
+    fresh = λ division divides rules size built has_log. record {
+      balanced = (balanced_kept eq).fresh division divides rules size built has_log;
       fits = λ n. record { first = tt; has = λ e. absurd (none_some e); applies = λ t. absurd t };
       mid = λ n t. t;
     };

@@ -175,7 +175,7 @@ module _ {K V E : Type 0} (eq : K → K → Bool) where
 
   awaited_kept : IsInvariant eq IsAwaited
   awaited_kept = record {
-    fresh = λ division divides rules size tests has_log. record { well = (well_kept eq).fresh division divides rules size tests has_log; awaited = λ o some. absurd (false≢true some) };
+    fresh = λ division divides rules size built has_log. record { well = (well_kept eq).fresh division divides rules size built has_log; awaited = λ o some. absurd (false≢true some) };
     at = λ s moment i. record { well = (well_kept eq).at s moment i.well; awaited = i.awaited };
     start = λ s start i. record { well = (well_kept eq).start s start i.well; awaited = i.awaited };
     step = λ s t n turn i step. record {

@@ -268,8 +268,8 @@ module _ {K V E : Type 0} (eq : K → K → Bool) where
 
   pub unsettled_kept : IsInvariant eq (IsUnsettled {K = K} {V = V} {E = E})
   unsettled_kept = record {
-    fresh = λ division divides rules size tests has_log. record {
-      known = (known_kept eq).fresh division divides rules size tests has_log;
+    fresh = λ division divides rules size built has_log. record {
+      known = (known_kept eq).fresh division divides rules size built has_log;
       numbered = λ n c live. absurd (none_some live);
       gone = λ m some. refl;
       given_out = λ m some. absurd (false≢true some);

@@ -254,6 +254,7 @@ module _ {K V E : Type 0} where
     )
     on_item (plan.Scan there stored) rest p t l =
         ((λ seen. never w c (λ q. q) (λ e. cc)), λ unseen. never w c (λ q. q) (goes_on c rest))
+    on_item (plan.Register test) rest p t l = never w c (λ q. q) (λ e. cc)
     on_item (plan.Reply answer) rest p t l = never w c (λ q. q) (λ e. cc)
     on_item _ rest p t l = never w c (λ q. q) (goes_on c rest)
 

@@ -492,8 +492,8 @@ module _ {K V E : Type 0} (eq : K → K → Bool) where
         drop_well s n i m false e = subst (LeftWell eq s.world.table) (sym (put_there s.calls n None m e)) (i.well m)
 
     pub in_walking : (s : State K V E) → IsReached eq s → AreWalking s
-    in_walking s h = follow eq AreWalking walking_followed (fresh K V E h.division h.rules h.size h.tests) s h.events h.replies (record {
-      reached = fresh_reached eq h.division h.divides h.rules h.size h.tests h.has_log;
+    in_walking s h = follow eq AreWalking walking_followed (fresh K V E h.division h.rules h.size h.handed) s h.events h.replies (record {
+      reached = fresh_reached eq h.division h.divides h.rules h.size h.handed h.has_log;
       divides = h.divides;
       begun = λ n. tt;
       well = λ n. tt;

@@ -17,7 +17,7 @@ use Rattle.moka_hist.specs.Tables.{GivesKeys, begun, listed_now}
 use Rattle.moka_hist.specs.Telling.{is_asked}
 use Rattle.moka_hist.specs.Telling.{told as tells}
 use Rattle.moka_hist.specs.Visible.{is_visible}
-use Rattle.moka_hist.specs.Visits.{times_at}
+use Rattle.moka_hist.specs.Visits.{is_hit, times_at}
 use Rattle.moka_hist.specs.declared.accesses.Turn.{Turn}
 use Rattle.moka_hist.specs.declared.accesses.Turn.TheVariants as turn
 use Rattle.moka_hist.specs.declared.events.Event.{Event}
@@ -63,8 +63,8 @@ module _ {K V : Type 0} where
 
 module _ {K V E : Type 0} where
   -- the record is visible in the world
-  abbrev visible_by : World K V E → Stored V → Bool
-  visible_by w x = is_visible w.desk.rules (times_at w.desk x.stamp x.modified) false
+  abbrev visible_by : World K V E → K → Stored V → Bool
+  visible_by w k x = is_visible w.desk.rules (times_at w.desk x.stamp x.modified) (is_hit w.desk k x)
 
   -- a walk that goes on leaves the call live with its plan, and one that ends has no more to do
   goes_going : (c : Call K V E) (p : List (Item K V E)) → IsWalk p → turn.Going ≡ (goes c p).turn →
@@ -184,7 +184,7 @@ module _ {K V E : Type 0} (eq : K → K → Bool) (laws : IsEquivalence eq) (s :
   record Same (w : World K V E) : Type 0 where
     stored : w.table.stored ≡ s.world.table.stored
     division : w.table.division ≡ s.world.table.division
-    seen : (x : Stored V) → visible_by w x ≡ is_visible_in s x
+    seen : (k : K) (x : Stored V) → visible_by w k x ≡ is_visible_in s k x
     lists : (l : Listed K) → w.table.listings n ≡ Some l → l ≡ list_by s.world.table.stored s.world.table.division l.part
 
   record Walking (v : State K V E) (c : Call K V E) : Type 0 where
@@ -199,7 +199,7 @@ module _ {K V E : Type 0} (eq : K → K → Bool) (laws : IsEquivalence eq) (s :
     there : K
     record_there : Stored V
     stood : s.world.table.stored q ≡ Some (there, record_there)
-    visible : is_visible_in s record_there ≡ true
+    visible : is_visible_in s there record_there ≡ true
 
   -- ---- a step
 
@@ -210,7 +210,7 @@ module _ {K V E : Type 0} (eq : K → K → Bool) (laws : IsEquivalence eq) (s :
         Same new → After c p new (goes c q)
     Still : Same new → After c p new (stays c)
     Gave : (there : K) (stored : Stored V) (rest : List (Item K V E)) → p ≡ plan.Scan there stored ∷ rest → IsWalk rest → Stand rest →
-        s.world.table.stored there ≡ Some (there, stored) → is_visible_in s stored ≡ true → Same new → After c p new (gives c there stored.value rest)
+        s.world.table.stored there ≡ Some (there, stored) → is_visible_in s there stored ≡ true → Same new → After c p new (gives c there stored.value rest)
     Over : ((k : K) → Comes k p → ⊥) → After c p new (answers answer.End)
 
   module _ (v : State K V E) (c : Call K V E) (i : Walking v c) where
@@ -290,17 +290,17 @@ module _ {K V E : Type 0} (eq : K → K → Bool) (laws : IsEquivalence eq) (s :
         found_back there own k (inl f) = inl (through other there k (laws.symm other there ∙ own) f)
         found_back there own k (inr h) = inr h
     on_step p e (Scans there stored rest walk) stand = outcomes eq (After c p) v.world n c (plan.Scan there stored) rest (
-      λ seen. Gave there stored rest refl walk stand.1 stand.0 (sym (i.same.seen stored) ∙ seen)
+      λ seen. Gave there stored rest refl walk stand.1 stand.0 (sym (i.same.seen there stored) ∙ seen)
           (record { stored = i.same.stored; division = i.same.division; seen = i.same.seen; lists = i.same.lists }),
-      λ unseen. On rest walk stand.1 (hidden (sym (i.same.seen stored) ∙ unseen)) (λ k h. inr h)
+      λ unseen. On rest walk stand.1 (hidden (sym (i.same.seen there stored) ∙ unseen)) (λ k h. inr h)
           (record { stored = i.same.stored; division = i.same.division; seen = i.same.seen; lists = i.same.lists }),
     )
       where
-        hidden : is_visible_in s stored ≡ false → (k : K) → IsSeen k → (eq there k ≡ true) ⊎ Comes k rest → Comes k rest
+        hidden : is_visible_in s there stored ≡ false → (k : K) → IsSeen k → (eq there k ≡ true) ⊎ Comes k rest → Comes k rest
         hidden unseen k seen (inr h) = h
         hidden unseen k seen (inl f) =
             absurd (false≢true (sym unseen ∙
-            ap (λ (x : K × Stored V). is_visible_in s x.1) (some_same (sym stand.0 ∙ alike there k f ∙ seen.stood)) ∙ seen.visible))
+            ap (λ (x : K × Stored V). is_visible_in s x.0 x.1) (some_same (sym stand.0 ∙ alike there k f ∙ seen.stood)) ∙ seen.visible))
 
     -- what the step was
     record Stepped (t : State K V E) (reply : Turn K V E) : Type 0 where
@@ -333,7 +333,7 @@ module _ {K V E : Type 0} (eq : K → K → Bool) (laws : IsEquivalence eq) (s :
   abbrev Good : List (Item K V E) → K × V → Type 0
   Good p item =
       Comes item.0 p × ((stored : Stored V) × (s.world.table.stored item.0 ≡ Some (item.0, stored)) × (stored.value ≡ item.1) ×
-      (is_visible_in s stored ≡ true))
+      (is_visible_in s item.0 stored ≡ true))
 
   record Shown (p : List (Item K V E)) (items : List (K × V)) : Type 0 where
     once : IsDistinct eq (keys_of items)
@@ -359,7 +359,7 @@ module _ {K V E : Type 0} (eq : K → K → Bool) (laws : IsEquivalence eq) (s :
   keys_differ a p (item ∷ items) past h = (past_comes a item.0 p past h.0.0, keys_differ a p items past h.1)
 
   given_shown : (there : K) (stored : Stored V) (rest : List (Item K V E)) (items : List (K × V)) → s.world.table.stored there ≡ Some (there, stored) →
-      is_visible_in s stored ≡ true → Past eq s.world.table.division there rest → Shown rest items →
+      is_visible_in s there stored ≡ true → Past eq s.world.table.division there rest → Shown rest items →
       Shown (plan.Scan there stored ∷ rest) ((there, stored.value) ∷ items)
   unfolding IsDistinct
   given_shown there stored rest items stood visible past h = record {
@@ -596,7 +596,7 @@ module _ {K V E : Type 0} (eq : K → K → Bool) (laws : IsEquivalence eq) wher
         same = record {
           stored = refl;
           division = refl;
-          seen = λ x. refl;
+          seen = λ k x. refl;
           lists = λ l is. absurd (no_list (s.world.table.listings n)
               (none (part_begun s.world.table n) (subst (BegunBy (part_begun s.world.table n)) live (of_state.begun n))) l is);
         };

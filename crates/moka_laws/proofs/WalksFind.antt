@@ -238,8 +238,8 @@ module _ {K V E : Type 0} (eq : K → K → Bool) where
             (found_if_on s (started s begin) m led (s.calls m) (i.found m))
 
     in_found : (s : State K V E) → IsReached eq s → AreFound s
-    in_found s h = follow eq AreFound found_followed (fresh K V E h.division h.rules h.size h.tests) s h.events h.replies (record {
-      reached = fresh_reached eq h.division h.divides h.rules h.size h.tests h.has_log;
+    in_found s h = follow eq AreFound found_followed (fresh K V E h.division h.rules h.size h.handed) s h.events h.replies (record {
+      reached = fresh_reached eq h.division h.divides h.rules h.size h.handed h.has_log;
       found = λ n. tt;
     }) h.run
 
@@ -248,7 +248,7 @@ module _ {K V E : Type 0} (eq : K → K → Bool) where
         let item = items_walk eq n step.call s.world step.world step.given key value step.gets (sym step.turns) in
         let stored : Stored V = item.1.0 in
         let judge : IsToJudge step.call key stored = item.1.1 in
-        let seen : is_visible_in s stored ≡ true =
+        let seen : is_visible_in s key stored ≡ true =
         (scans_show eq s t n step.call key stored (turn.Item key value) step.live judge step).0 (ap (λ v. turn.Item key v) (sym item.1.2)) in
         let all : AllFound s n (plan.Scan key stored ∷ judge.0) =
         subst (AllFound s n) judge.1 (subst (FoundIf s n) step.live ((in_found s h).found n)) in

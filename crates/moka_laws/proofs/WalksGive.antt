@@ -85,11 +85,11 @@ module _ {K V E : Type 0} (eq : K → K → Bool) where
   scans_show s t n c there stored reply live judge step =
       let is : step.call ≡ c = some_same (sym step.live ∙ live) in
       let e : step.call.plan ≡ plan.Scan there stored ∷ judge.0 = ap (λ (v : Call K V E). v.plan) is ∙ judge.1 in
-      step_cases eq (λ new next. (next.turn ≡ turn.Item there stored.value) ↔ (is_visible_in s stored ≡ true))
-      (λ v r. (r ≡ turn.Item there stored.value) ↔ (is_visible_in s stored ≡ true)) s t n reply step
-      (subst (λ p. OnStep eq (λ (new : World K V E) (next : Next K V E). (next.turn ≡ turn.Item there stored.value) ↔ (is_visible_in s stored ≡ true))
+      step_cases eq (λ new next. (next.turn ≡ turn.Item there stored.value) ↔ (is_visible_in s there stored ≡ true))
+      (λ v r. (r ≡ turn.Item there stored.value) ↔ (is_visible_in s there stored ≡ true)) s t n reply step
+      (subst (λ p. OnStep eq (λ (new : World K V E) (next : Next K V E). (next.turn ≡ turn.Item there stored.value) ↔ (is_visible_in s there stored ≡ true))
       s.world n step.call p) (sym e)
-      (outcomes eq (λ (new : World K V E) (next : Next K V E). (next.turn ≡ turn.Item there stored.value) ↔ (is_visible_in s stored ≡ true))
+      (outcomes eq (λ (new : World K V E) (next : Next K V E). (next.turn ≡ turn.Item there stored.value) ↔ (is_visible_in s there stored ≡ true))
       s.world n step.call (plan.Scan there stored) judge.0 (
         λ seen. (λ f. seen, λ f. refl),
         λ unseen. (λ f. absurd (silent judge.0 f), λ seen. absurd (false≢true (sym unseen ∙ seen))),

@@ -164,7 +164,7 @@ module _ {K V E : Type 0} (eq : K → K → Bool) where
 
   peak_kept : IsInvariant {K = K} {V = V} {E = E} eq KeysWerePeak
   peak_kept = record {
-    fresh = λ division divides rules size tests has_log. omega arith;
+    fresh = λ division divides rules size built has_log. omega arith;
     at = λ s moment h. h;
     start = λ s start h. h;
     step = peak_step;
@@ -251,7 +251,7 @@ module _ {K V E : Type 0} (eq : K → K → Bool) where
 
   log_kept : IsInvariant {K = K} {V = V} {E = E} eq HasLog
   log_kept = record {
-    fresh = λ division divides rules size tests has_log. has_log;
+    fresh = λ division divides rules size built has_log. has_log;
     at = λ s moment h. h;
     start = λ s start h. h;
     step = log_step;

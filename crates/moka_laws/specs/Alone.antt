@@ -24,7 +24,7 @@ pub record AnswersAlone {K V E : Type 0} (eq : K → K → Bool) (s : State K V 
 abbrev pub IsVisibleAt : {K V E : Type 0} → State K V E → K → Type 0
 IsVisibleAt {K} {V} s key =
     (there : K) (stored : Stored V) → s.world.table.stored key ≡ Some (there, stored) →
-    is_visible_in s stored ≡ true
+    is_visible_in s there stored ≡ true
 
 -- an insert that answers so, and right after it a get of an equal key that does, give the inserted
 -- value, in a cache that is not disabled: where the record is visible as the get's last step judges

@@ -1,7 +1,7 @@
 -- What is given to the cache, and that it stores and hands out nothing else.
 use Rattle.std.specs.Prelude.{◌≡◌, ℕ, Bool, true, List, [], ◌∷◌, Option, Some, None, ◌⊎◌, IsSomeAnd}
 use Rattle.std.specs.Option.{option_and_then, option_map}
-use Rattle.moka_hist.specs.State.{State, fresh, Division}
+use Rattle.moka_hist.specs.State.{State, fresh, Division, Handed}
 use Rattle.moka_hist.specs.Plan.{Item}
 use Rattle.moka_hist.specs.Plan as plan
 use Rattle.moka_hist.specs.Run.{Happens, Run, Any, reply_of}
@@ -66,6 +66,7 @@ asked_key (plan.Write key value moment ∷ rest) = None
 asked_key (plan.Out removal key ∷ rest) = None
 asked_key (plan.Idle ∷ rest) = None
 asked_key (plan.Invalidate_all ∷ rest) = None
+asked_key (plan.Register test ∷ rest) = None
 asked_key (plan.List_keys part ∷ rest) = None
 asked_key (plan.Find key ∷ rest) = None
 asked_key (plan.Scan there found ∷ rest) = None
@@ -93,11 +94,11 @@ module _ {K V E : Type 0} where
 -- key that it is stored with
 abbrev pub StoredIsGiven : (K V E : Type 0) → (K → K → Bool) → Type 0
 StoredIsGiven K V E eq =
-    (division : Division K) (rules : Rules) (size : ℕ) (tests : ℕ → K → V → Bool) (s : State K V E)
+    (division : Division K) (rules : Rules) (size : ℕ) (built : Handed K V) (s : State K V E)
     (es : List (Event K V E)) (rs : List (Reply K V E))
-    (run : Run eq Any (fresh K V E division rules size tests) es rs s) (q : K) (p : K × Stored V) →
+    (run : Run eq Any (fresh K V E division rules size built) es rs s) (q : K) (p : K × Stored V) →
     s.world.table.stored q ≡ Some p →
-    WasGiven eq (fresh K V E division rules size tests) es rs s run p.0 p.1.value
+    WasGiven eq (fresh K V E division rules size built) es rs s run p.0 p.1.value
 
 -- the value of what a compute did, if any
 abbrev pub value_done : {K V : Type 0} → CompResult K V → Option V
@@ -121,6 +122,9 @@ module _ {K V E : Type 0} where
   value_of answer.Evicted = None
   value_of answer.Kept = None
   value_of answer.End = None
+  value_of (answer.Id id) = None
+  value_of answer.ClosuresDisabled = None
+  value_of answer.NoId = None
 
   -- the value that a call hands out by this reply, if any: to its caller as it answers, to its
   -- initializer as it asks for a compute, or to the listener. What a walk gives was not asked for by
@@ -149,22 +153,22 @@ module _ {K V E : Type 0} where
 -- event of that run has given for a key equal to that which the call was started for
 abbrev pub HandedIsGiven : (K V E : Type 0) → (K → K → Bool) → Type 0
 HandedIsGiven K V E eq =
-    (division : Division K) (rules : Rules) (size : ℕ) (tests : ℕ → K → V → Bool) (s t : State K V E)
+    (division : Division K) (rules : Rules) (size : ℕ) (built : Handed K V) (s t : State K V E)
     (es : List (Event K V E)) (rs : List (Reply K V E))
-    (run : Run eq Any (fresh K V E division rules size tests) es rs s) (n : ℕ) (e : Event K V E)
+    (run : Run eq Any (fresh K V E division rules size built) es rs s) (n : ℕ) (e : Event K V E)
     (r : Reply K V E) (start : Start K V) (value : V) →
     HasStarted n es rs start → (e ≡ event.Step n) ⊎ (e ≡ event.Poll n) → Happens eq Any s e r t →
     handed r ≡ Some value →
-    (key : K) × WasGiven eq (fresh K V E division rules size tests) es rs s run key value ×
+    (key : K) × WasGiven eq (fresh K V E division rules size built) es rs s run key value ×
     IsSomeAnd (key_started start) (λ own. eq key own ≡ true)
 
 -- so by a step of its own
 abbrev pub SteppedIsGiven : (K V E : Type 0) → (K → K → Bool) → Type 0
 SteppedIsGiven K V E eq =
-    (division : Division K) (rules : Rules) (size : ℕ) (tests : ℕ → K → V → Bool) (s t : State K V E)
+    (division : Division K) (rules : Rules) (size : ℕ) (built : Handed K V) (s t : State K V E)
     (es : List (Event K V E)) (rs : List (Reply K V E))
-    (run : Run eq Any (fresh K V E division rules size tests) es rs s) (n : ℕ) (turn : Turn K V E)
+    (run : Run eq Any (fresh K V E division rules size built) es rs s) (n : ℕ) (turn : Turn K V E)
     (start : Start K V) (value : V) →
     HasStarted n es rs start → Step eq s n turn t → handed (reply_of turn) ≡ Some value →
-    (key : K) × WasGiven eq (fresh K V E division rules size tests) es rs s run key value ×
+    (key : K) × WasGiven eq (fresh K V E division rules size built) es rs s run key value ×
     IsSomeAnd (key_started start) (λ own. eq key own ≡ true)

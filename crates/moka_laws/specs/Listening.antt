@@ -70,6 +70,7 @@ module _ {K V E : Type 0} where
   locked_key (plan.Out removal key ∷ rest) = Some key
   locked_key (plan.Idle ∷ rest) = None
   locked_key (plan.Invalidate_all ∷ rest) = None
+  locked_key (plan.Register test ∷ rest) = None
   locked_key (plan.List_keys part ∷ rest) = None
   locked_key (plan.Find key ∷ rest) = None
   locked_key (plan.Scan there found ∷ rest) = None

@@ -59,6 +59,9 @@ is_computed answer.RetriesExhausted = false
 is_computed answer.Evicted = false
 is_computed answer.Kept = false
 is_computed answer.End = false
+is_computed (answer.Id id) = false
+is_computed answer.ClosuresDisabled = false
+is_computed answer.NoId = false
 
 -- the reply answers as a compute does that ended so: for those that wait, with nothing
 pub record SaysComputed {K V E : Type 0} (with : Settled V E) (reply : Turn K V E) : Type 0 where
@@ -239,6 +242,7 @@ module _ {K V E : Type 0} where
   is_reading (plan.Out removal key ∷ rest) = false
   is_reading (plan.Idle ∷ rest) = false
   is_reading (plan.Invalidate_all ∷ rest) = false
+  is_reading (plan.Register test ∷ rest) = false
   is_reading (plan.List_keys part ∷ rest) = false
   is_reading (plan.Find key ∷ rest) = false
   is_reading (plan.Scan there found ∷ rest) = false
@@ -280,6 +284,7 @@ module _ {K V E : Type 0} where
   test_asked (plan.Out removal key ∷ rest) = 0
   test_asked (plan.Idle ∷ rest) = 0
   test_asked (plan.Invalidate_all ∷ rest) = 0
+  test_asked (plan.Register test ∷ rest) = 0
   test_asked (plan.List_keys part ∷ rest) = 0
   test_asked (plan.Find key ∷ rest) = 0
   test_asked (plan.Scan there found ∷ rest) = 0

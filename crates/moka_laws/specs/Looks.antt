@@ -4,7 +4,7 @@ use Rattle.moka_hist.specs.State.{Call, State}
 use Rattle.moka_hist.specs.Plan.{Aim, end_load, look, is_disabled}
 use Rattle.moka_hist.specs.Plan as plan
 use Rattle.moka_hist.specs.Visible.{is_visible}
-use Rattle.moka_hist.specs.Visits.{is_seen, times_at}
+use Rattle.moka_hist.specs.Visits.{is_hit, is_seen, times_at}
 use Rattle.moka_hist.specs.Step.{Step, replace_of}
 use Rattle.moka_hist.specs.declared.accesses.Turn.{Turn}
 use Rattle.moka_hist.specs.declared.accesses.Turn.TheVariants as turn
@@ -15,10 +15,12 @@ use Rattle.moka_hist.specs.declared.replies.Answer.TheVariants as answer
 use Rattle.moka_hist.specs.declared.visits.Settled.TheVariants as settled
 use Rattle.moka_laws.specs.Starting.{HasMade, WasStarted}
 
--- the record is visible in the state: by its clock neither past its times nor hidden
-abbrev pub is_visible_in : {K V E : Type 0} → State K V E → Stored V → Bool
-is_visible_in s stored =
-    is_visible s.world.desk.rules (times_at s.world.desk stored.stamp stored.modified) false
+-- the record of this key is visible in the state: by its clock neither past its times nor hidden, and
+-- no registered predicate hits it
+abbrev pub is_visible_in : {K V E : Type 0} → State K V E → K → Stored V → Bool
+is_visible_in s there stored =
+    is_visible s.world.desk.rules (times_at s.world.desk stored.stamp stored.modified)
+    (is_hit s.world.desk there stored)
 
 -- ---- the steps of a look
 
@@ -63,7 +65,7 @@ module _ {K V E : Type 0} where
     pub looked : HasMade eq s n
         (LooksUp n (plan.To_show plan.As_value) key (Some (there, stored)))
     pub judging : c.plan ≡ plan.Judge (plan.To_show plan.As_value) there stored ∷ []
-    pub visible : is_visible_in s stored ≡ true
+    pub visible : is_visible_in s there stored ≡ true
     pub same : stored.value ≡ value
 
   -- the get's step finds nothing under the key, or judges a record that isn't visible
@@ -72,7 +74,7 @@ module _ {K V E : Type 0} where
       LooksUp n (plan.To_show plan.As_value) key None s c reply t ⊎
       ((there : K) × (stored : Stored V) ×
       (c.plan ≡ plan.Judge (plan.To_show plan.As_value) there stored ∷ []) ×
-      (is_visible_in s stored ≡ false))
+      (is_visible_in s there stored ≡ false))
 
 -- a get answers a value exactly where its own visit judges a record with it that is visible then
 abbrev pub GetsShow : (K V E : Type 0) → (K → K → Bool) → Type 0
@@ -108,7 +110,7 @@ InsertsShow K V E eq =
     (s t : State K V E) (n : ℕ) (c : Call K V E) (key there : K) (value : V) (stored : Stored V)
     (reply : Turn K V E) → s.calls n ≡ Some c → Step eq s n reply t →
     c.plan ≡ plan.Judge (plan.To_insert key value) there stored ∷ [] →
-    (reply ≡ turn.Answer (answer.Loaded stored.value false)) ↔ (is_visible_in s stored ≡ true)
+    (reply ≡ turn.Answer (answer.Loaded stored.value false)) ↔ (is_visible_in s there stored ≡ true)
 
 -- and the owner's look is followed by the end of its load with that value exactly where it sees it
 abbrev pub OwnersShow : (K V E : Type 0) → (K → K → Bool) → Type 0

@@ -1,6 +1,6 @@
 -- Which states a run can reach, and how a run goes on.
 use Rattle.std.specs.Prelude.{◌≡◌, ℕ, ◌<◌, Bool, List, [], ◌∷◌, ◌++◌, Some}
-use Rattle.moka_hist.specs.State.{Call, Division, State, fresh}
+use Rattle.moka_hist.specs.State.{Call, Division, State, fresh, Handed}
 use Rattle.moka_hist.specs.Step.{Step}
 use Rattle.moka_hist.specs.Run.{Divides, Goings, Happens, Run, Any, IsReached}
 use Rattle.moka_hist.specs.declared.rules.Rules.{Rules}
@@ -14,8 +14,8 @@ use Rattle.moka_laws.specs.Starting.{Leads, Way, WasStarted}
 abbrev pub FreshIsReached : (K V E : Type 0) → (K → K → Bool) → Type 0
 FreshIsReached K V E eq =
     (division : Division K) → Divides eq division →
-    (rules : Rules) (size : ℕ) (tests : ℕ → K → V → Bool) → 0 < size →
-    IsReached eq (fresh K V E division rules size tests)
+    (rules : Rules) (size : ℕ) (built : Handed K V) → 0 < size →
+    IsReached eq (fresh K V E division rules size built)
 
 -- what an event leaves of a reached state is reached
 abbrev pub ReachedByEvent : (K V E : Type 0) → (K → K → Bool) → Type 0

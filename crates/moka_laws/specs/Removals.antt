@@ -4,7 +4,7 @@ use Rattle.moka_hist.specs.State.{Call, State}
 use Rattle.moka_hist.specs.Plan.{Item, Removal, held_by}
 use Rattle.moka_hist.specs.Plan as plan
 use Rattle.moka_hist.specs.Causes.{chosen_holds}
-use Rattle.moka_hist.specs.Visits.{times_at}
+use Rattle.moka_hist.specs.Visits.{is_hit, times_at}
 use Rattle.moka_hist.specs.Tables.{removed}
 use Rattle.moka_hist.specs.Writing.{stamp_asked, removed_answer, nothing_answer, nothing_rest}
 use Rattle.moka_hist.specs.Step.{Step}
@@ -154,7 +154,8 @@ module _ {K V E : Type 0} where
   abbrev pub StaysByCause : State K V E → Item K V E → Type 0
   StaysByCause s (plan.Get (plan.To_evict key stamp cause) at) = StandsAs s at stamp → ⊥
   StaysByCause s (plan.Holds key stamp cause there found) =
-      chosen_holds s.world.desk.rules (times_at s.world.desk found.stamp found.modified) false cause
+      chosen_holds s.world.desk.rules (times_at s.world.desk found.stamp found.modified)
+      (is_hit s.world.desk there found) cause
       ≡ false
   StaysByCause s (plan.Out (plan.To_evict_chosen stamp cause) key) = StandsAs s key stamp → ⊥
   StaysByCause s _ = ⊥

@@ -1,7 +1,7 @@
 -- The desk stays sound.
 use Rattle.std.specs.Prelude.{ℕ, Bool, Option}
 use Rattle.std.specs.Option.{option_map}
-use Rattle.moka_hist.specs.State.{DeskPart, State, fresh_desk}
+use Rattle.moka_hist.specs.State.{DeskPart, State, fresh_desk, Handed}
 use Rattle.moka_hist.specs.Visits.{decided, makes}
 use Rattle.moka_hist.specs.Conditions.{MayLeave, MayVisit}
 use Rattle.moka_hist.specs.SoundDesk.{SoundDesk}
@@ -16,8 +16,8 @@ use Rattle.moka_hist.specs.declared.writes.Owed.{Owed}
 -- a desk where nothing has happened is sound
 abbrev pub FreshIsSound : (K V E : Type 0) → (K → K → Bool) → Type 0
 FreshIsSound K V E eq =
-    (rules : Rules) (size : ℕ) (tests : ℕ → K → V → Bool) →
-    SoundDesk eq (fresh_desk K V E rules size tests)
+    (rules : Rules) (size : ℕ) (built : Handed K V) →
+    SoundDesk eq (fresh_desk K V E rules size built)
 
 -- each visit that a sound desk allows leaves it sound
 abbrev pub VisitsKeepSound : (K V E : Type 0) → (K → K → Bool) → Type 0

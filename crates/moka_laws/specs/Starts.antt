@@ -27,6 +27,7 @@ key_started (start.Invalidate key) = Some key
 key_started (start.Remove key) = Some key
 key_started (start.Evict key stamp cause) = Some key
 key_started start.InvalidateAll = None
+key_started (start.InvalidateIf test) = None
 key_started start.Iter = None
 
 -- the pair that a call is started with, to store it
@@ -45,6 +46,7 @@ brought (start.Invalidate key) = None
 brought (start.Remove key) = None
 brought (start.Evict key stamp cause) = None
 brought start.InvalidateAll = None
+brought (start.InvalidateIf test) = None
 brought start.Iter = None
 
 -- the kind of load that a call is started for, if it is one
@@ -63,6 +65,7 @@ kind_loaded (start.Invalidate key) = None
 kind_loaded (start.Remove key) = None
 kind_loaded (start.Evict key stamp cause) = None
 kind_loaded start.InvalidateAll = None
+kind_loaded (start.InvalidateIf test) = None
 kind_loaded start.Iter = None
 
 -- the key that a call is started to compute
@@ -81,6 +84,7 @@ computed_key (start.Invalidate key) = None
 computed_key (start.Remove key) = None
 computed_key (start.Evict key stamp cause) = None
 computed_key start.InvalidateAll = None
+computed_key (start.InvalidateIf test) = None
 computed_key start.Iter = None
 
 -- a call that is started for this asks nothing where another compute of the key goes: that is of one
@@ -105,6 +109,7 @@ removal_started (start.Invalidate key) = Some (plan.To_invalidate, key)
 removal_started (start.Remove key) = Some (plan.To_remove, key)
 removal_started (start.Evict key stamp cause) = Some (plan.To_evict_chosen stamp cause, key)
 removal_started start.InvalidateAll = None
+removal_started (start.InvalidateIf test) = None
 removal_started start.Iter = None
 
 -- a call that is started for this asks its caller for nothing, and waits for no load and no compute
@@ -116,6 +121,7 @@ asks_nobody (start.Invalidate key) = true
 asks_nobody (start.Remove key) = true
 asks_nobody (start.Evict key stamp cause) = true
 asks_nobody start.InvalidateAll = true
+asks_nobody (start.InvalidateIf test) = true
 asks_nobody start.Iter = true
 asks_nobody (start.GetWith key replace) = false
 asks_nobody (start.Optional key) = false
@@ -149,6 +155,9 @@ may_answer (start.Remove key) (answer.Found value) = true
 may_answer (start.Evict key stamp cause) answer.Evicted = true
 may_answer (start.Evict key stamp cause) answer.Kept = true
 may_answer start.InvalidateAll answer.Done = true
+may_answer (start.InvalidateIf test) (answer.Id id) = true
+may_answer (start.InvalidateIf test) answer.ClosuresDisabled = true
+may_answer (start.InvalidateIf test) answer.NoId = true
 may_answer start.Iter answer.End = true
 may_answer _ _ = false
 
@@ -175,6 +184,9 @@ module _ {K V E : Type 0} where
   is_done answer.Evicted = false
   is_done answer.Kept = false
   is_done answer.End = false
+  is_done (answer.Id id) = false
+  is_done answer.ClosuresDisabled = false
+  is_done answer.NoId = false
 
   abbrev pub is_fresh : Answer K V E → Bool
   is_fresh answer.Done = false
@@ -188,6 +200,9 @@ module _ {K V E : Type 0} where
   is_fresh answer.Evicted = false
   is_fresh answer.Kept = false
   is_fresh answer.End = false
+  is_fresh (answer.Id id) = false
+  is_fresh answer.ClosuresDisabled = false
+  is_fresh answer.NoId = false
 
   abbrev pub has_put : Answer K V E → Bool
   has_put answer.Done = false
@@ -201,6 +216,9 @@ module _ {K V E : Type 0} where
   has_put answer.Evicted = false
   has_put answer.Kept = false
   has_put answer.End = false
+  has_put (answer.Id id) = false
+  has_put answer.ClosuresDisabled = false
+  has_put answer.NoId = false
 
   -- The answer of a call that was started for this says that it has stored a value: an insert's that
   -- is done, a load's whose own initializer gave the value, an or_insert's that found none, and a
@@ -220,4 +238,5 @@ module _ {K V E : Type 0} where
   says_stored (start.Remove key) a = false
   says_stored (start.Evict key stamp cause) a = false
   says_stored start.InvalidateAll a = false
+  says_stored (start.InvalidateIf test) a = false
   says_stored start.Iter a = false

@@ -54,7 +54,7 @@ abbrev pub ScansShow : (K V E : Type 0) → (K → K → Bool) → Type 0
 ScansShow K V E eq =
     (s t : State K V E) (n : ℕ) (c : Call K V E) (there : K) (stored : Stored V)
     (reply : Turn K V E) → s.calls n ≡ Some c → IsToJudge c there stored → Step eq s n reply t →
-    (reply ≡ turn.Item there stored.value) ↔ (is_visible_in s stored ≡ true)
+    (reply ≡ turn.Item there stored.value) ↔ (is_visible_in s there stored ≡ true)
 
 -- each item is a pair that the walk's own look found under a listed key, and is visible in the state
 -- that it is judged in
@@ -62,7 +62,7 @@ abbrev pub ItemsAreFound : (K V E : Type 0) → (K → K → Bool) → Type 0
 ItemsAreFound K V E eq =
     (s t : State K V E) (n : ℕ) (key : K) (value : V) → IsReached eq s →
     Step eq s n (turn.Item key value) t →
-    (stored : Stored V) × (stored.value ≡ value) × (is_visible_in s stored ≡ true) ×
+    (stored : Stored V) × (stored.value ≡ value) × (is_visible_in s key stored ≡ true) ×
     ((listed : K) × HasMade eq s n (FindsListed n listed (Some (key, stored))))
 
 -- no two items of one walk have equal keys
@@ -83,7 +83,7 @@ LooksAreApart K V E eq =
 pub record JudgesFound {K V E : Type 0} (there : K) (stored : Stored V) (s : State K V E)
     (c : Call K V E) (reply : Turn K V E) (t : State K V E) : Type 0 where
   pub judges : IsToJudge c there stored
-  pub shows : (reply ≡ turn.Item there stored.value) ↔ (is_visible_in s stored ≡ true)
+  pub shows : (reply ≡ turn.Item there stored.value) ↔ (is_visible_in s there stored ≡ true)
 
 -- A key that is stored in each state from one in which a walk is fresh to the one in which it ends
 -- was looked up, found there, and judged.
@@ -128,11 +128,11 @@ pub record AreVisible {K V E : Type 0} (eq : K → K → Bool) (s : State K V E)
     (items : List (K × V)) : Type 0 where
   pub once : IsDistinct eq (keys_of items)
   pub all : (key there : K) (stored : Stored V) →
-      s.world.table.stored key ≡ Some (there, stored) → is_visible_in s stored ≡ true →
+      s.world.table.stored key ≡ Some (there, stored) → is_visible_in s there stored ≡ true →
       Contains items (there, stored.value)
   pub only : AllByRecursion
       (λ item. (stored : Stored V) × (s.world.table.stored item.0 ≡ Some (item.0, stored)) ×
-      (stored.value ≡ item.1) × (is_visible_in s stored ≡ true)) items
+      (stored.value ≡ item.1) × (is_visible_in s item.0 stored ≡ true)) items
 
 -- a walk with no step of another call in between, and the clock still, gives each visible record
 -- once, and nothing else

@@ -1,4 +1,5 @@
 pub mod Listings
 pub mod TableSteps
+pub mod Undrawn
 pub mod Wanted
 pub mod Visited

@@ -12,7 +12,7 @@ use Rattle.moka_hist.specs.declared.tables.TableOp.{TableOp}
 use Rattle.moka_hist.specs.declared.tables.TableOp.TheVariants as op
 use Rattle.moka_table.specs.Map.{GoesOnListing}
 use Rattle.moka_table.specs.declared.table.Table as Table
-use Rattle.moka_layers.specs.Listings.{IsStoredIn, ListedFollows, ListingFollows, ListingIs, ListsAs, ListsFor}
+use Rattle.moka_layers.specs.Listings.{IsStoredIn, ListedFollows, ListingFollows, ListsAs, ListsFor}
 
 -- ---- maps by number
 

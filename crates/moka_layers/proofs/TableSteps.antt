@@ -1,5 +1,5 @@
 -- A step of the table is the reference's.
-use Rattle.std.proofs.Common.{◌≡◌, ◌≢◌, ◌<◌, ◌≤◌, ◌==◌, ℕ, ◌+◌, ◌-◌, max, Bool, true, false, cond, List, length, Option, Some, None, is_some, IsSome, refl, sym, ap, subst, ◌∙◌, ◌⊎◌, inl, inr, arith}
+use Rattle.std.proofs.Common.{◌≡◌, ◌≢◌, ◌<◌, ◌≤◌, ◌==◌, ℕ, ◌+◌, ◌-◌, max, Bool, true, false, cond, List, Option, Some, None, is_some, IsSome, refl, sym, ap, subst, ◌∙◌, ◌⊎◌, inl, inr, arith}
 use Rattle.std.proofs.lemmas.Bool.Decides.{eqb_tells}
 use Rattle.std.specs.declared.cmp.PartialEq as PartialEq
 use Rattle.std.specs.declared.hash.Hash as Hash
@@ -7,7 +7,7 @@ use Rattle.moka_hist.specs.Bound.{times_of, stayed, decided_by, most_undecided}
 use Rattle.moka_hist.specs.State.{Listed, Stay, TablePart}
 use Rattle.moka_hist.specs.Step as step
 use Rattle.moka_hist.specs.Finite.{put_at, put_key}
-use Rattle.moka_hist.specs.Tables.{GivesKeys, Operates, answer_of, begun, by_pair, listings_begun, removed, taken_by, written}
+use Rattle.moka_hist.specs.Tables.{Operates, answer_of, begun, by_pair, listings_begun, removed, taken_by, written}
 use Rattle.moka_hist.specs.declared.records.Stored.{Stored}
 use Rattle.moka_hist.specs.declared.tables.TableOp.{TableOp}
 use Rattle.moka_hist.specs.declared.tables.TableOp.TheVariants as op
@@ -18,12 +18,13 @@ use Rattle.moka_hist.specs.declared.tables.TableTurn.TheVariants as turn
 use Rattle.moka_hist.specs.declared.accesses.Got.TheVariants as got
 use Rattle.moka_bound.specs.Falling.{keys_in, raised}
 use Rattle.moka_init.specs.Grounds.{Accesses}
-use Rattle.moka_table.specs.Map.{Answers, GoesOnListing, IsList, Moves, Pairs, longest, most_steps}
+use Rattle.moka_table.specs.Map.{GoesOnListing, IsList, Moves, longest, most_steps}
 use Rattle.moka_hist.specs.declared.record_tests.Tests as Tests
+use Rattle.moka_ids.specs.declared.pcg_ids.PcgIds.{PcgIds}
 use Rattle.moka_table.specs.declared.table.Table as Table
 use Rattle.moka_desk.specs.declared.state.Desk.{Desk}
 use Rattle.moka_layers.specs.Layers.{TableIs, BegunIs, LayersStay, Serves, account_of, most_on}
-use Rattle.moka_layers.specs.Listings.{ListedFollows, ListingFollows, ListingIs, ListsFor}
+use Rattle.moka_layers.specs.Listings.{ListedFollows, ListingFollows, ListsFor}
 use Rattle.moka_layers.proofs.Listings.{begun_other, begun_own, follows_removed, follows_same, follows_written, listing_follows, lists_go_on, lists_still, lists_there, must_stored, other_place, own_place, unlisted_removed, unlisted_written}
 
 -- what a table says of one step of an operation
@@ -422,11 +423,11 @@ module _ {K V T C : Type 0} (t : Table.Ghosts T K V C) (eq : K → K → Bool) w
 
 module _ {K V E T C Q : Type 0} {same : PartialEq.Ghosts K} {hash : Hash.Ghosts K} (t : Table.Ghosts T K V C) (q : Tests.Ghosts Q K V) (eq : K → K → Bool) where
   -- an undecided step
-  pub going_serves : (o : TableOp K V) (old new : T) (call on : C) (desk : Desk K V E same hash) (tests : Q) (n : ℕ) → Stepped t eq o old call turn.Going new on
+  pub going_serves : (o : TableOp K V) (old new : T) (call on : C) (desk : Desk K V E same hash) (tests : Q) (ids : PcgIds) (n : ℕ) → Stepped t eq o old call turn.Going new on
       → t.operation_of call ≡ Some o
-      → Serves eq t q (record { table = old; desk = desk; tests = tests; call = n; begun = Some call }) (step.On_table o) (got.Table turn.Going)
-      (record { table = new; desk = desk; tests = tests; call = n; begun = Some on })
-  going_serves o old new call on desk tests n s is_o = λ w h may.
+      → Serves eq t q (record { table = old; desk = desk; tests = tests; ids = ids; call = n; begun = Some call }) (step.On_table o) (got.Table turn.Going)
+      (record { table = new; desk = desk; tests = tests; ids = ids; call = n; begun = Some on })
+  going_serves o old new call on desk tests ids n s is_o = λ w h may.
       let was_is = h.world.table in
       let kept = still_is t eq o old new call on w.table s was_is in
       let is : TableIs t new (begun w.table n o) = record {
@@ -451,7 +452,7 @@ module _ {K V E T C Q : Type 0} {same : PartialEq.Ghosts K} {hash : Hash.Ghosts 
         record w { table = begun w.table n o; stay = stayed w.stay n },
         (omega (arith, patient, nears), refl),
         record {
-          world = record { table = is; desk = h.world.desk; tests = h.world.tests; stay = h.given };
+          world = record { table = is; desk = h.world.desk; handed = h.world.handed; stay = h.given };
           begun = record {
             fits = (undecided.1, subst (λ (x : Option (TableOp K V)). IsSome x) (sym undecided.0) h.begun.fits.1);
             within = omega (arith, was, nears, s.first, raised_by);
@@ -468,18 +469,18 @@ module _ {K V E T C Q : Type 0} {same : PartialEq.Ghosts K} {hash : Hash.Ghosts 
       )
 
   -- a step that decides
-  pub decided_serves : (o : TableOp K V) (old new : T) (call on : C) (desk : Desk K V E same hash) (tests : Q) (n : ℕ) (answer : TableAnswer K V)
+  pub decided_serves : (o : TableOp K V) (old new : T) (call on : C) (desk : Desk K V E same hash) (tests : Q) (ids : PcgIds) (n : ℕ) (answer : TableAnswer K V)
       → Stepped t eq o old call (turn.Decided answer) new on → t.operation_of call ≡ Some o
-      → Serves eq t q (record { table = old; desk = desk; tests = tests; call = n; begun = Some call }) (step.On_table o) (got.Table (turn.Decided answer))
-      (record { table = new; desk = desk; tests = tests; call = n; begun = None })
-  decided_serves o old new call on desk tests n answer s is_o = λ w h may.
+      → Serves eq t q (record { table = old; desk = desk; tests = tests; ids = ids; call = n; begun = Some call }) (step.On_table o) (got.Table (turn.Decided answer))
+      (record { table = new; desk = desk; tests = tests; ids = ids; call = n; begun = None })
+  decided_serves o old new call on desk tests ids n answer s is_o = λ w h may.
       let d = decides t eq n o old new call on answer w.table s h.world.table (h.begun.listing o is_o) in
       let own = times_own n 0 in
       let most = most_within t eq new d.after d.is in (
         record w { table = d.after; stay = decided_by n },
         (d.after, d.operates, refl),
         record {
-          world = record { table = d.is; desk = h.world.desk; tests = h.world.tests; stay = h.given };
+          world = record { table = d.is; desk = h.world.desk; handed = h.world.handed; stay = h.given };
           begun = record { fits = tt; within = omega arith; patient = omega (arith, own, most); listing = d.unlisted };
           given = h.given;
         },
@@ -488,11 +489,11 @@ module _ {K V E T C Q : Type 0} {same : PartialEq.Ghosts K} {hash : Hash.Ghosts 
       )
 
   -- what is told of it
-  pub going_tells : (o : TableOp K V) (old new : T) (call on : C) (desk : Desk K V E same hash) (tests : Q) (n : ℕ) → Stepped t eq o old call turn.Going new on
+  pub going_tells : (o : TableOp K V) (old new : T) (call on : C) (desk : Desk K V E same hash) (tests : Q) (ids : PcgIds) (n : ℕ) → Stepped t eq o old call turn.Going new on
       → t.operation_of call ≡ Some o → t.left old call ≤ most_on t old
-      → Accesses (account_of t (record { table = old; desk = desk; tests = tests; call = n; begun = Some call })) (step.On_table o) (got.Table turn.Going)
-      (account_of t (record { table = new; desk = desk; tests = tests; call = n; begun = Some on }))
-  going_tells o old new call on desk tests n s is_o within =
+      → Accesses (account_of t (record { table = old; desk = desk; tests = tests; ids = ids; call = n; begun = Some call })) (step.On_table o) (got.Table turn.Going)
+      (account_of t (record { table = new; desk = desk; tests = tests; ids = ids; call = n; begun = Some on }))
+  going_tells o old new call on desk tests ids n s is_o within =
       let nears = s.nears refl in
       record {
         form = tt;
@@ -508,11 +509,11 @@ module _ {K V E T C Q : Type 0} {same : PartialEq.Ghosts K} {hash : Hash.Ghosts 
         };
       }
 
-  pub decided_tells : (o : TableOp K V) (old new : T) (call on : C) (desk : Desk K V E same hash) (tests : Q) (n : ℕ) (answer : TableAnswer K V)
+  pub decided_tells : (o : TableOp K V) (old new : T) (call on : C) (desk : Desk K V E same hash) (tests : Q) (ids : PcgIds) (n : ℕ) (answer : TableAnswer K V)
       → Stepped t eq o old call (turn.Decided answer) new on
-      → Accesses (account_of t (record { table = old; desk = desk; tests = tests; call = n; begun = Some call })) (step.On_table o) (got.Table (turn.Decided answer))
-      (account_of t (record { table = new; desk = desk; tests = tests; call = n; begun = None }))
-  decided_tells o old new call on desk tests n answer s =
+      → Accesses (account_of t (record { table = old; desk = desk; tests = tests; ids = ids; call = n; begun = Some call })) (step.On_table o) (got.Table (turn.Decided answer))
+      (account_of t (record { table = new; desk = desk; tests = tests; ids = ids; call = n; begun = None }))
+  decided_tells o old new call on desk tests ids n answer s =
       record {
         form = tt;
         call = refl;
@@ -528,15 +529,15 @@ module _ {K V E T C Q : Type 0} {same : PartialEq.Ghosts K} {hash : Hash.Ghosts 
       }
 
   -- a step that wanted memory leaves what the layers stand for
-  pub wanting_stays : (old new : T) (call on : C) (desk : Desk K V E same hash) (tests : Q) (n : ℕ) → Wanting t old call new on
-      → LayersStay eq t q (record { table = old; desk = desk; tests = tests; call = n; begun = Some call })
-      (record { table = new; desk = desk; tests = tests; call = n; begun = Some on })
-  wanting_stays old new call on desk tests n s = λ w h.
+  pub wanting_stays : (old new : T) (call on : C) (desk : Desk K V E same hash) (tests : Q) (ids : PcgIds) (n : ℕ) → Wanting t old call new on
+      → LayersStay eq t q (record { table = old; desk = desk; tests = tests; ids = ids; call = n; begun = Some call })
+      (record { table = new; desk = desk; tests = tests; ids = ids; call = n; begun = Some on })
+  wanting_stays old new call on desk tests ids n s = λ w h.
       let within = h.begun.within in
       let patient = h.begun.patient in
       let left = s.left in (
         record {
-          world = record { table = wanting_is t eq old new call on w.table s h.world.table; desk = h.world.desk; tests = h.world.tests; stay = h.world.stay };
+          world = record { table = wanting_is t eq old new call on w.table s h.world.table; desk = h.world.desk; handed = h.world.handed; stay = h.world.stay };
           begun = record {
             fits = (s.fits, subst (λ (x : Option (TableOp K V)). IsSome x) (sym s.operation) h.begun.fits.1);
             within = omega (arith, within, left, s.peak, s.first, s.count, s.holds);

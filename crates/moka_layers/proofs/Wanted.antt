@@ -1,5 +1,5 @@
 -- Which access is wanted, and what it finds begun.
-use Rattle.std.proofs.Common.{◌≡◌, ◌≢◌, ◌≤◌, ℕ, ◌+◌, Bool, true, false, cond, Option, Some, None, IfSome, IsSome, is_some, not, ◌&&◌, refl, sym, ap, subst, ◌∙◌, arith}
+use Rattle.std.proofs.Common.{◌≡◌, ◌≢◌, ◌≤◌, ℕ, ◌+◌, Bool, true, false, cond, Option, Some, None, IfSome, IsSome, is_some, refl, sym, ap, subst, ◌∙◌, arith}
 use Rattle.std.specs.declared.cmp.PartialEq as PartialEq
 use Rattle.std.specs.declared.hash.Hash as Hash
 use Rattle.moka_hist.specs.Bound.{stayed, times_of, most_undecided}
@@ -9,7 +9,7 @@ use Rattle.moka_hist.specs.State.{DeskPart, Listed, TablePart, World}
 use Rattle.moka_hist.specs.Step.{Access, Gets, May}
 use Rattle.moka_hist.specs.Tables.{Operates, begun, listings_begun}
 use Rattle.moka_hist.specs.Step as step
-use Rattle.moka_hist.specs.Visits.{finds, makes, judged, claimed, claimed_alone, is_unlocked_for, locked_by, settlement_for, readers_without, settled_without}
+use Rattle.moka_hist.specs.Visits.{makes, claimed, claimed_alone, is_unlocked_for, locked_by, settlement_for, readers_without, settled_without}
 use Rattle.moka_hist.specs.declared.tables.TableOp.{TableOp}
 use Rattle.moka_hist.specs.declared.tables.TableOp.TheVariants as op
 use Rattle.moka_hist.specs.declared.tables.TableTurn.TheVariants as table
@@ -17,21 +17,20 @@ use Rattle.moka_hist.specs.declared.loads.Kind.TheVariants as kind
 use Rattle.moka_hist.specs.declared.visits.Visit.{Visit}
 use Rattle.moka_hist.specs.declared.visits.Visit.TheVariants as visit
 use Rattle.moka_hist.specs.declared.visits.Found.{Found}
-use Rattle.moka_hist.specs.declared.visits.Found.TheVariants as found
 use Rattle.moka_hist.specs.declared.accesses.Want.{Want}
 use Rattle.moka_hist.specs.declared.accesses.Want.TheVariants as want
 use Rattle.moka_hist.specs.declared.accesses.Got.{Got}
 use Rattle.moka_hist.specs.declared.accesses.Got.TheVariants as got
 use Rattle.moka_init.specs.Grounds.{Accesses, MayWant, wanted}
 use Rattle.moka_hist.specs.declared.record_tests.Tests as Tests
+use Rattle.moka_ids.specs.declared.pcg_ids.PcgIds.{PcgIds}
 use Rattle.moka_table.specs.declared.table.Table as Table
-use Rattle.moka_desk.specs.Moments.{is_shown}
-use Rattle.moka_desk.specs.StandsFor.{StandsFor}
 use Rattle.moka_desk.specs.declared.state.Desk.{Desk}
-use Rattle.moka_layers.specs.Layers.{BegunIs, GroundIs, OthersStay, Serves, account_of, left_in, most_on, operation_in}
+use Rattle.moka_layers.specs.Layers.{BegunIs, GroundIs, LayersStay, OthersStay, Serves, account_of, left_in, most_on, operation_in}
 use Rattle.moka_layers.specs.Listings.{ListingIs, ListsFor}
 use Rattle.moka_layers.proofs.Listings.{begun_other, begun_twice, lists_back, lists_begin, lists_there}
-use Rattle.moka_layers.specs.Visiting.{VisitBy, test_holds}
+use Rattle.moka_layers.specs.Handing.{IsHanded, handed_by, ids_of}
+use Rattle.moka_layers.specs.Visiting.{DeskStays, VisitBy}
 use Rattle.moka_layers.specs.declared.layers.Layers.{Layers}
 
 module _ {K V E : Type 0} where
@@ -110,30 +109,6 @@ module _ {K V E : Type 0} where
       by true = refl
       by false = refl
   last_same eq w _ = refl
-
-  -- nor changes what the tests answer
-  pub tests_same : (eq : K → K → Bool) (w : DeskPart K V E) (v : Visit K V E) → (makes eq w v).tests ≡ w.tests
-  tests_same eq w (visit.WaitOrOwn n key kind) = by (w.owners (record { key = key; kind = kind }))
-    where
-      by : (o : Option ℕ) → (claimed eq w n (record { key = key; kind = kind }) o).tests ≡ w.tests
-      by None = refl
-      by (Some owner) = refl
-  tests_same eq w (visit.OwnAlone n key) = by (w.owners (record { key = key; kind = kind.Compute }))
-    where
-      by : (o : Option ℕ) → (claimed_alone eq w n (record { key = key; kind = kind.Compute }) o).tests ≡ w.tests
-      by None = refl
-      by (Some owner) = refl
-  tests_same eq w (visit.ReadSettled n) = by (is_some (settlement_for w n))
-    where
-      by : (b : Bool) → (cond b (record w { joined = put_at w.joined n None; readers = readers_without w n; settled = settled_without w n }) w).tests ≡ w.tests
-      by true = refl
-      by false = refl
-  tests_same eq w (visit.LockKey n key) = by (is_unlocked_for w n key)
-    where
-      by : (b : Bool) → (locked_by eq w n key b).tests ≡ w.tests
-      by true = refl
-      by false = refl
-  tests_same eq w _ = refl
 
 module _ {K V T C : Type 0} (t : Table.Ghosts T K V C) where
   -- an operation that was begun is of something
@@ -230,7 +205,7 @@ module _ {K V E T C Q : Type 0} {same : PartialEq.Ghosts K} {hash : Hash.Ghosts 
         world = record {
           table = record { map = is.map; keys = is.keys; peak = is.peak; first = is.first; parts = is.parts; part_of = is.part_of };
           desk = h.world.desk;
-          tests = h.world.tests;
+          handed = h.world.handed;
           stay = h.world.stay;
         };
         begun = record {
@@ -255,7 +230,7 @@ module _ {K V E T C Q : Type 0} {same : PartialEq.Ghosts K} {hash : Hash.Ghosts 
         world = record {
           table = record { map = is.map; keys = is.keys; peak = is.peak; first = is.first; parts = is.parts; part_of = is.part_of };
           desk = h.world.desk;
-          tests = h.world.tests;
+          handed = h.world.handed;
           stay = h.world.stay;
         };
         begun = record {
@@ -292,27 +267,19 @@ module _ {K V E T C Q : Type 0} {same : PartialEq.Ghosts K} {hash : Hash.Ghosts 
   pub with_begun : (layers : Layers K V E T C Q same hash) (c : C) → layers.begun ≡ Some c → record layers { begun = Some c } ≡ layers
   with_begun layers c e = ap (λ b. record layers { begun = b }) (sym e)
 
-  -- what a visit made by the tests is, from a state whose tests answer so
-  made_by : (answers : ℕ → K → V → Bool) (old new : Desk K V E same hash) (v : Visit K V E) (f : Found V E) → VisitBy eq answers old v f new
-      → (w : DeskPart K V E) → StandsFor eq old w → answers ≡ w.tests → MayVisit w v → (f ≡ finds w v) × StandsFor eq new (makes eq w v)
-  made_by answers old new (visit.Judge replace key stored) f is w stands tests may =
-      subst (λ (a : ℕ → K → V → Bool). (f ≡ found.Judge (not (test_holds a replace key stored.value) && is_shown w stored.stamp stored.modified))
-      × StandsFor eq new (judged w stored.stamp stored.modified (not (test_holds a replace key stored.value) && is_shown w stored.stamp stored.modified))) tests (is.made w stands)
-  made_by answers old new _ f is w stands tests may = is.made w stands may
-
   -- a visit, where nothing is begun
-  pub visit_serves : (table : T) (tests : Q) (old new : Desk K V E same hash) (n : ℕ) (begun : Option C) (v : Visit K V E) (f : Found V E) → begun ≡ None
-      → VisitBy eq (q.answers tests) old v f new
-      → Serves eq t q (record { table = table; desk = old; tests = tests; call = n; begun = begun }) (step.On_desk v) (got.Desk f)
-      (record { table = table; desk = new; tests = tests; call = n; begun = begun })
-  visit_serves table tests old new n begun v f none is =
-      subst (λ (b : Option C). Serves eq t q (record { table = table; desk = old; tests = tests; call = n; begun = begun }) (step.On_desk v) (got.Desk f)
-      (record { table = table; desk = new; tests = tests; call = n; begun = b })) (sym none) serves
+  pub visit_serves : (table : T) (tests : Q) (ids left : PcgIds) (old new : Desk K V E same hash) (n : ℕ) (begun : Option C) (v : Visit K V E) (f : Found V E) → begun ≡ None
+      → VisitBy eq (handed_by q tests (ids_of ids)) old v f new (handed_by q tests (ids_of left))
+      → Serves eq t q (record { table = table; desk = old; tests = tests; ids = ids; call = n; begun = begun }) (step.On_desk v) (got.Desk f)
+      (record { table = table; desk = new; tests = tests; ids = left; call = n; begun = begun })
+  visit_serves table tests ids left old new n begun v f none is =
+      subst (λ (b : Option C). Serves eq t q (record { table = table; desk = old; tests = tests; ids = ids; call = n; begun = begun }) (step.On_desk v) (got.Desk f)
+      (record { table = table; desk = new; tests = tests; ids = left; call = n; begun = b })) (sym none) serves
     where
-      serves : Serves eq t q (record { table = table; desk = old; tests = tests; call = n; begun = begun }) (step.On_desk v) (got.Desk f)
-          (record { table = table; desk = new; tests = tests; call = n; begun = None })
+      serves : Serves eq t q (record { table = table; desk = old; tests = tests; ids = ids; call = n; begun = begun }) (step.On_desk v) (got.Desk f)
+          (record { table = table; desk = new; tests = tests; ids = left; call = n; begun = None })
       serves = λ w h may.
-          let m = made_by (q.answers tests) old new v f is w.desk h.world.desk h.world.tests may in
+          let m = is.made w.desk h.world.desk h.world.handed may in
           let last = last_same eq w.desk v in
           let stay = h.world.stay in
           let given = h.given in
@@ -321,7 +288,7 @@ module _ {K V E T C Q : Type 0} {same : PartialEq.Ghosts K} {hash : Hash.Ghosts 
             record w { desk = makes eq w.desk v },
             (m.0, refl),
             record {
-              world = record { table = h.world.table; desk = m.1; tests = h.world.tests ∙ sym (tests_same eq w.desk v); stay = omega (arith, stay, last) };
+              world = record { table = h.world.table; desk = m.1; handed = m.2; stay = omega (arith, stay, last) };
               begun = record {
                 fits = tt;
                 within = omega arith;
@@ -332,3 +299,21 @@ module _ {K V E T C Q : Type 0} {same : PartialEq.Ghosts K} {hash : Hash.Ghosts 
             },
             (λ m begun apart stays. stays),
           )
+
+  -- ids that are to come alike leave the layers what they stood for
+  pub ids_stay : (table : T) (tests : Q) (ids left : PcgIds) (old new : Desk K V E same hash) (n : ℕ) (begun : Option C) → ids_of left ≡ ids_of ids → DeskStays eq old new
+      → LayersStay eq t q (record { table = table; desk = old; tests = tests; ids = ids; call = n; begun = begun })
+      (record { table = table; desk = new; tests = tests; ids = left; call = n; begun = begun })
+  ids_stay table tests ids left old new n begun alike stays = λ w h. (
+    record {
+      world = record {
+        table = h.world.table;
+        desk = stays w.desk h.world.desk;
+        handed = subst (λ (i : ℕ → ℕ). IsHanded (handed_by q tests i) w.desk) (sym alike) h.world.handed;
+        stay = h.world.stay;
+      };
+      begun = h.begun;
+      given = h.given;
+    },
+    (λ m begun apart was. was),
+  )

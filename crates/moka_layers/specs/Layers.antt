@@ -19,6 +19,7 @@ use Rattle.moka_table.specs.declared.table.Table as Table
 use Rattle.moka_desk.specs.StandsFor as desk
 use Rattle.moka_desk.specs.Sizes.{owed_in, logged_in, room_in, has_ended}
 use Rattle.moka_init.specs.Grounds.{Account, MayWant, nothing_told}
+use Rattle.moka_layers.specs.Handing.{IsHanded, handed_by, ids_of}
 use Rattle.moka_layers.specs.Listings.{ListingIs}
 use Rattle.moka_layers.specs.Visiting.{handed_out}
 use Rattle.moka_layers.specs.declared.layers.Layers.{Layers}
@@ -62,15 +63,15 @@ pub record BegunIs {K V T C : Type 0} (t : Table.Ghosts T K V C) (table : T) (ca
   pub patient : times_of stay call + left_in t table begun ≤ most_undecided part
   pub listing : ListingIs t table begun part (part.listings call)
 
--- Table and desk are those of the world, and the tests answer as its desk has it. Who made its last
--- step on the table had a number given out.
+-- Table and desk are those of the world, and the layers were handed what its desk was. Who made its
+-- last step on the table had a number given out.
 pub record WorldIs {K V E T C Q : Type 0} {same : PartialEq.Ghosts K} {hash : Hash.Ghosts K}
     (eq : K → K → Bool) (t : Table.Ghosts T K V C) (q : Tests.Ghosts Q K V)
     (layers : Layers K V E T C Q same hash)
     (w : World K V E) : Type 0 where
   pub table : TableIs t layers.table w.table
   pub desk : desk.StandsFor eq layers.desk w.desk
-  pub tests : q.answers layers.tests ≡ w.desk.tests
+  pub handed : IsHanded (handed_by q layers.tests (ids_of layers.ids)) w.desk
   pub stay : w.stay.call ≤ w.desk.last
 
 -- They are so for the call that reaches them, with what it has begun.

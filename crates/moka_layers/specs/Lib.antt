@@ -1,4 +1,5 @@
 pub mod Listings
+pub mod Handing
 pub mod Layers
 pub mod Visiting
 pub mod Counted

@@ -1,23 +1,20 @@
 -- What a visit does to the desk.
-use Rattle.std.specs.Prelude.{◌≡◌, ℕ, Bool, false, not, ◌&&◌, List, Option, Some}
+use Rattle.std.specs.Prelude.{◌≡◌, ℕ, Bool, false, List, Option, Some}
 use Rattle.std.specs.Option.{option_map_or}
 use Rattle.std.specs.declared.cmp.PartialEq as PartialEq
 use Rattle.std.specs.declared.hash.Hash as Hash
-use Rattle.moka_hist.specs.State.{DeskPart}
+use Rattle.moka_hist.specs.State.{DeskPart, Handed}
 use Rattle.moka_hist.specs.Conditions.{MayVisit}
-use Rattle.moka_hist.specs.Causes.{chosen_holds}
-use Rattle.moka_hist.specs.Visits.{finds, makes, judged, times_at}
-use Rattle.moka_hist.specs.declared.rules.Cause.{Cause}
+use Rattle.moka_hist.specs.Visits.{finds, makes}
 use Rattle.moka_hist.specs.declared.visits.Visit.{Visit}
 use Rattle.moka_hist.specs.declared.visits.Visit.TheVariants as visit
 use Rattle.moka_hist.specs.declared.visits.Found.{Found}
-use Rattle.moka_hist.specs.declared.visits.Found.TheVariants as found
-use Rattle.moka_desk.specs.Moments.{is_shown}
 use Rattle.moka_desk.specs.StandsFor.{StandsFor}
 use Rattle.moka_desk.specs.Waits.{lock_line, settlement_line, turn_line}
 use Rattle.moka_desk.specs.declared.state.Desk.{Desk}
 use Rattle.moka_init.specs.Forms.{IsFoundBy}
 use Rattle.moka_init.specs.Grounds.{VisitNeedsMemory}
+use Rattle.moka_layers.specs.Handing.{IsHanded}
 
 module _ {K V : Type 0} where
   -- by these answers the test of this number, if there is one, holds on the key and the value
@@ -33,38 +30,16 @@ module _ {K V E : Type 0} {same : PartialEq.Ghosts K} {hash : Hash.Ghosts K} whe
     pub made : (w : DeskPart K V E) → StandsFor eq old w → MayVisit w visit
         → (found ≡ finds w visit) × StandsFor eq new (makes eq w visit)
 
-  -- the same of the visit that judges a record of this stamp and moment, which is seen where it is
-  -- visible and not replaced
-  pub record JudgeIs (eq : K → K → Bool) (old : Desk K V E same hash) (replaced : Bool)
-      (stamp modified : ℕ) (f : Found V E) (new : Desk K V E same hash) : Type 0 where
-    pub form : (seen : Bool) × (f ≡ found.Judge seen)
-    pub made : (w : DeskPart K V E) → StandsFor eq old w
-        → (f ≡ found.Judge (not replaced && is_shown w stamp modified))
-        × StandsFor eq new (judged w stamp modified (not replaced && is_shown w stamp modified))
-
-  -- the same of the visit that judges a record that a walk found, and changes nothing
-  pub record ScanIs (eq : K → K → Bool) (old : Desk K V E same hash) (stamp modified : ℕ)
-      (f : Found V E) (new : Desk K V E same hash) : Type 0 where
-    pub form : (seen : Bool) × (f ≡ found.Scan seen)
-    pub made : (w : DeskPart K V E) → StandsFor eq old w
-        → (f ≡ found.Scan (is_shown w stamp modified)) × StandsFor eq new w
-
-  -- the same of the visit that judges whether such a record has still to leave for the cause
-  pub record HoldsIs (eq : K → K → Bool) (old : Desk K V E same hash) (stamp modified : ℕ)
-      (cause : Cause) (f : Found V E) (new : Desk K V E same hash) : Type 0 where
-    pub form : (holds : Bool) × (f ≡ found.Holds holds)
-    pub made : (w : DeskPart K V E) → StandsFor eq old w
-        → (f ≡ found.Holds (chosen_holds w.rules (times_at w stamp modified) false cause))
-        × StandsFor eq new w
-
-  -- The visit was made by tests that answer so. The desk has none: that the reference's tests
-  -- answer the same is for the layers to say.
-  abbrev pub VisitBy : (K → K → Bool) → (ℕ → K → V → Bool) → Desk K V E same hash → Visit K V E
-      → Found V E → Desk K V E same hash → Type 0
-  VisitBy eq answers old (visit.Judge replace key stored) f new =
-      JudgeIs eq old (test_holds answers replace key stored.value) stored.stamp stored.modified f
-      new
-  VisitBy eq answers old made f new = VisitIs eq old made f new
+  -- The same of a visit by the tests, predicates and ids that were handed to the layers: the desk
+  -- has none. That the reference's desk was handed the same is for the layers to say. Of the ids
+  -- those are left then that the reference's desk has still to draw.
+  pub record VisitBy (eq : K → K → Bool) (handed : Handed K V) (old : Desk K V E same hash)
+      (visit : Visit K V E) (found : Found V E) (new : Desk K V E same hash) (left : Handed K V)
+      : Type 0 where
+    pub form : IsFoundBy visit found
+    pub made : (w : DeskPart K V E) → StandsFor eq old w → IsHanded handed w → MayVisit w visit
+        → (found ≡ finds w visit) × StandsFor eq new (makes eq w visit)
+        × IsHanded left (makes eq w visit)
 
   -- the calls that are handed out once the visit was made: those that waited for what it ends or
   -- frees; and what was handed out before, where it hands nobody out

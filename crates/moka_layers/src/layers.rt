@@ -6,6 +6,7 @@ ghost use Rattle.moka_layers.specs.Counted.{counted};
 use crate::visits::make_visit;
 use moka_desk::Desk;
 use moka_hist::{Got, TableOp, TableTurn, Tests, Visit, Want};
+use moka_ids::PcgIds;
 use moka_init::{Alone, Ground};
 use moka_sync::CallList;
 use moka_table::Table;
@@ -14,7 +15,8 @@ use std::alloc::AllocError;
 use std::hash::Hash;
 
 /// The table, the desk, and the call that reaches them, with the table operation that it has begun;
-/// and the tests by which calls judge what they find.
+/// the tests and predicates by which calls judge what they find; and the ids of predicates that are
+/// registered.
 #[derive(Drop)]
 pub struct Layers<K: Eq + Hash, V, E, T, C, Q> {
     pub table: T,
@@ -22,6 +24,7 @@ pub struct Layers<K: Eq + Hash, V, E, T, C, Q> {
     pub call: u64,
     pub begun: Option<C>,
     pub tests: Q,
+    pub ids: PcgIds,
 }
 
 impl<
@@ -151,7 +154,7 @@ impl<
         ensures woken { IfOk result (λ given.
             woken.new ≡ handed_out self.old.desk visit woken.old) }
     {
-        let found = make_visit(&mut self.desk, &self.tests, visit, woken)?;
+        let found = make_visit(&mut self.desk, &self.tests, &mut self.ids, visit, woken)?;
         Ok(Got::Desk(found))
     }
 

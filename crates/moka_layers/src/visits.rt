@@ -1,14 +1,17 @@
 //! The visits of the desk that flows make.
-ghost use Rattle.std.specs.Prelude.{◌≡◌, Some, IfOk, OnErr};
+ghost use Rattle.std.specs.Prelude.{◌≡◌, ◌≢◌, ℕ, Some, Err, IfOk, OnErr, MatchResult};
+ghost use Rattle.moka_hist.specs.State.{Handed};
 ghost use Rattle.moka_desk.specs.History.{KeepsAsBefore};
 ghost use Rattle.moka_desk.specs.StandsFor.{Can};
 ghost use Rattle.moka_desk.specs.Waits.{lock_line, settlement_line, turn_line};
 ghost use Rattle.moka_init.specs.Forms.{IsFoundBy};
-ghost use Rattle.moka_layers.specs.Visiting.{HoldsIs, JudgeIs, ScanIs, DeskStays, VisitLacks, VisitIs};
-ghost use Rattle.moka_layers.specs.Visiting.{VisitBy, handed_out, test_holds};
+ghost use Rattle.moka_layers.specs.Handing.{handed_by, ids_of};
+ghost use Rattle.moka_layers.specs.Visiting.{DeskStays, VisitBy, VisitIs, VisitLacks};
+ghost use Rattle.moka_layers.specs.Visiting.{handed_out, test_holds};
 
 use moka_desk::Desk;
-use moka_hist::{Cause, Found, Load, Settled, Stored, Takes, Tests, Visit};
+use moka_hist::{Cause, Found, Load, PredicateError, Settled, Stored, Takes, Tests, Visit};
+use moka_ids::PcgIds;
 use moka_sync::CallList;
 use moka_values::Exact;
 use std::alloc::AllocError;
@@ -19,15 +22,18 @@ use std::hash::Hash;
 pub(crate) fn make_visit<K: Eq + Hash + Exact, V: Exact, E: Exact, Q: Tests<K, V>>(
     desk: &mut Desk<K, V, E>,
     tests: &Q,
+    ids: &mut PcgIds,
     visit: Visit<K, V, E>,
     woken: &mut Option<CallList>,
 ) -> Result<Found<V, E>, AllocError>
     requires can { Can K.eq desk.old visit }
     ensures form { IfOk result (λ found. IsFoundBy visit found) }
     ensures ok { IfOk result (λ found.
-        VisitBy K.eq (Q.answers tests.now) desk.old visit found desk.new) }
+        VisitBy K.eq (handed_by Q.Tests tests.now (ids_of ids.old)) desk.old visit found desk.new
+        (handed_by Q.Tests tests.now (ids_of ids.new))) }
     ensures woken { IfOk result (λ found. woken.new ≡ handed_out desk.old visit woken.old) }
     ensures err { OnErr result (DeskStays K.eq desk.old desk.new) }
+    ensures err_ids { OnErr result (ids_of ids.new ≡ ids_of ids.old) }
     ensures err_needs { OnErr result (VisitLacks K.eq desk.old visit) }
     ensures kept { KeepsAsBefore desk.old desk.new }
 {
@@ -51,11 +57,9 @@ pub(crate) fn make_visit<K: Eq + Hash + Exact, V: Exact, E: Exact, Q: Tests<K, V
             replace,
             key,
             stored,
-        } => judge_by(desk, tests, replace, &key, &stored),
-        Visit::Scan { stored, .. } => Ok(scan(desk, stored.stamp, stored.modified)),
-        Visit::Holds { stored, cause, .. } => {
-            Ok(holds(desk, stored.stamp, stored.modified, cause))
-        }
+        } => judge(desk, tests, replace, &key, &stored),
+        Visit::Scan { key, stored } => Ok(scan(desk, tests, &key, &stored)),
+        Visit::Holds { key, stored, cause } => Ok(holds(desk, tests, &key, &stored, cause)),
         Visit::WaitOrOwn { call, key, kind } => wait_or_own(desk, call, Load { key, kind }),
         Visit::OwnAlone { call, key } => own_alone(desk, call, key),
         Visit::ReadSettled { call } => read_settled(desk, call),
@@ -66,6 +70,7 @@ pub(crate) fn make_visit<K: Eq + Hash + Exact, V: Exact, E: Exact, Q: Tests<K, V
         Visit::TakeTurn { call } => take_turn(desk, call),
         Visit::ApplyOne { call } => Ok(Found::ApplyOne(desk.apply_one(call))),
         Visit::InvalidateAll => Ok(invalidate_all(desk)),
+        Visit::Register { test } => register(desk, ids, test),
         Visit::EndTurn { call } => Ok(end_turn(desk, call, woken)),
     }
 }
@@ -84,22 +89,25 @@ fn stamp_moment<K: Eq + Hash + Exact, V: Exact, E: Exact>(
     Ok(Found::StampMoment(moment))
 }
 
-// Judges the record by the tests, which the desk does not have.
-fn judge_by<K: Eq + Hash + Exact, V: Exact, E: Exact, Q: Tests<K, V>>(
+// Judges the record by the tests and the predicates, which the desk does not have.
+fn judge<K: Eq + Hash + Exact, V: Exact, E: Exact, Q: Tests<K, V>>(
     desk: &mut Desk<K, V, E>,
     tests: &Q,
     replace: Option<u64>,
     key: &K,
     stored: &Stored<V>,
 ) -> Result<Found<V, E>, AllocError>
-    ensures ok { IfOk result (λ found. JudgeIs K.eq desk.old
-        (test_holds (Q.answers tests.now) replace key.now stored.now.value)
-        stored.now.stamp stored.now.modified found desk.new) }
+    ensures ok { IfOk result (λ found. (ids : ℕ → ℕ)
+        → VisitBy K.eq (handed_by Q.Tests tests.now ids) desk.old
+        (Visit.Judge replace key.now stored.now) found desk.new
+        (handed_by Q.Tests tests.now ids)) }
     ensures err { OnErr result (DeskStays K.eq desk.old desk.new) }
     ensures kept { KeepsAsBefore desk.old desk.new }
 {
+    let hit = desk.hits(tests, key, stored);
     let replaced = is_replaced(tests, replace, key, &stored.value);
-    judge(desk, replaced, stored.stamp, stored.modified)
+    let seen = desk.judge(hit, replaced, stored.stamp, stored.modified)?;
+    Ok(Found::Judge(seen))
 }
 
 // Whether the test of this number, if there is one, holds on the key and the value.
@@ -112,48 +120,74 @@ fn is_replaced<K, V, Q: Tests<K, V>>(tests: &Q, replace: Option<u64>, key: &K, v
     }
 }
 
-// Judges a record on which the call's test holds, if it is replaced.
-fn judge<K: Eq + Hash + Exact, V: Exact, E: Exact>(
-    desk: &mut Desk<K, V, E>,
-    replaced: bool,
-    stamp: u64,
-    modified: u64,
-) -> Result<Found<V, E>, AllocError>
-    ensures ok { IfOk result (λ found.
-        JudgeIs K.eq desk.old replaced stamp modified found desk.new) }
-    ensures err { OnErr result (DeskStays K.eq desk.old desk.new) }
-    ensures kept { KeepsAsBefore desk.old desk.new }
-{
-    let seen = desk.judge(replaced, stamp, modified)?;
-    Ok(Found::Judge(seen))
-}
-
 // Judges a record that a walk found.
 #[cold]
 #[inline(never)]
-fn scan<K: Eq + Hash + Exact, V: Exact, E: Exact>(
+fn scan<K: Eq + Hash + Exact, V: Exact, E: Exact, Q: Tests<K, V>>(
     desk: &mut Desk<K, V, E>,
-    stamp: u64,
-    modified: u64,
+    tests: &Q,
+    key: &K,
+    stored: &Stored<V>,
 ) -> Found<V, E>
-    ensures visit { ScanIs K.eq desk.old stamp modified result desk.new }
+    ensures visit { (ids : ℕ → ℕ) → VisitBy K.eq (handed_by Q.Tests tests.now ids) desk.old
+        (Visit.Scan key.now stored.now) result desk.new (handed_by Q.Tests tests.now ids) }
     ensures kept { KeepsAsBefore desk.old desk.new }
 {
-    Found::Scan(desk.scan(stamp, modified))
+    let hit = desk.hits(tests, key, stored);
+    Found::Scan(desk.scan(hit, stored.stamp, stored.modified))
 }
 
 #[cold]
 #[inline(never)]
-fn holds<K: Eq + Hash + Exact, V: Exact, E: Exact>(
+fn holds<K: Eq + Hash + Exact, V: Exact, E: Exact, Q: Tests<K, V>>(
     desk: &mut Desk<K, V, E>,
-    stamp: u64,
-    modified: u64,
+    tests: &Q,
+    key: &K,
+    stored: &Stored<V>,
     cause: Cause,
 ) -> Found<V, E>
-    ensures visit { HoldsIs K.eq desk.old stamp modified cause result desk.new }
+    ensures visit { (ids : ℕ → ℕ) → VisitBy K.eq (handed_by Q.Tests tests.now ids) desk.old
+        (Visit.Holds key.now stored.now cause) result desk.new
+        (handed_by Q.Tests tests.now ids) }
     ensures kept { KeepsAsBefore desk.old desk.new }
 {
-    Found::Holds(desk.holds(stamp, modified, cause))
+    let hit = desk.hits(tests, key, stored);
+    Found::Holds(desk.holds(hit, stored.stamp, stored.modified, cause))
+}
+
+// Registers the predicate of this number.
+#[cold]
+#[inline(never)]
+fn register<K: Eq + Hash + Exact, V: Exact, E: Exact>(
+    desk: &mut Desk<K, V, E>,
+    ids: &mut PcgIds,
+    test: u64,
+) -> Result<Found<V, E>, AllocError>
+    ensures ok { IfOk result (λ found. (handed : Handed K V)
+        → VisitBy K.eq (record handed { ids = ids_of ids.old }) desk.old (Visit.Register test)
+        found desk.new (record handed { ids = ids_of ids.new })) }
+    ensures err { OnErr result (DeskStays K.eq desk.old desk.new) }
+    ensures err_ids { OnErr result (ids_of ids.new ≡ ids_of ids.old) }
+    ensures err_needs { OnErr result (VisitLacks K.eq desk.old (Visit.Register test)) }
+    ensures kept { KeepsAsBefore desk.old desk.new }
+{
+    match desk.register(test, ids) {
+        Ok(id) => Ok(Found::Register(Ok(id))),
+        Err(why) => unregistered(why),
+    }
+}
+
+// What is found where no predicate was registered, unless that was for want of memory.
+fn unregistered<V, E>(why: PredicateError) -> Result<Found<V, E>, AllocError>
+    ensures { MatchResult result
+        (λ found. (found ≡ Found.Register (Err why)) × (why ≢ PredicateError.Memory))
+        (λ _. why ≡ PredicateError.Memory) }
+{
+    match why {
+        PredicateError::Memory => Err(AllocError),
+        PredicateError::NoId => Ok(Found::Register(Err(why))),
+        PredicateError::InvalidationClosuresDisabled => Ok(Found::Register(Err(why))),
+    }
 }
 
 fn wait_or_own<K: Eq + Hash + Exact, V: Exact, E: Exact>(

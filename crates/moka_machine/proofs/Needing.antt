@@ -62,6 +62,7 @@ module _ {K V E : Type 0} {same : PartialEq.Ghosts K} {hash : Hash.Ghosts K} (eq
   visit_needs : (d : Desk K V E same hash) (w u : DeskPart K V E) (v : Visit K V E) → desk.StandsFor eq d w → desk.StandsFor eq d u → VisitNeedsMemory w v → VisitNeedsMemory u v
   visit_needs d w u (visit.NoticeEnded n number) h k needs = sym (same_running d w u number h k) ∙ needs
   visit_needs d w u (visit.TakeTurn n) h k needs = ap (λ t. option_map_or (λ holder. holder == n) t true) (sym k.turn ∙ h.turn) ∙ needs
+  visit_needs d w u (visit.Register test) h k needs = ap (λ r. r.closures) (sym k.rules ∙ h.rules) ∙ needs
   visit_needs d w u _ h k needs = needs
 
   access_needs : (d : Desk K V E same hash) (w u : World K V E) (a : Access K V E) → desk.StandsFor eq d w.desk → desk.StandsFor eq d u.desk → NeedsMemory w a → NeedsMemory u a

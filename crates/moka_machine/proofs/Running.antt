@@ -62,7 +62,7 @@ module _ {K V E T : Type 0} {same : PartialEq.Ghosts K} {hash : Hash.Ghosts K} (
         given = subst (λ (k : ℕ). k ≤ w.desk.last) h.number layers.given;
       } in
       record {
-        world = record { table = layers.world.table; desk = layers.world.desk; tests = layers.world.tests; stay = layers.world.stay };
+        world = record { table = layers.world.table; desk = layers.world.desk; handed = layers.world.handed; stay = layers.world.stay };
         calls = set_calls (running_at m.calls) (running_at new) others n (Some back) (Some (call_of back.flow.value)) refl runs h.calls;
         each = set_each (IsOf eq m.layers.table w.table w.stay w.desk.last) (running_at m.calls) (running_at new) n (Some back)
             (λ x e. let f : back ≡ x = cc in subst (λ (r : Running K V E). IsOf eq m.layers.table w.table w.stay w.desk.last n r) f is) runs h.reaches.each;
@@ -78,7 +78,7 @@ module _ {K V E T : Type 0} {same : PartialEq.Ghosts K} {hash : Hash.Ghosts K} (
       let layers = h.reaches.layers in
       let runs = runs_at (place_at m.calls) (place_at new) n None puts in
       record {
-        world = record { table = layers.world.table; desk = layers.world.desk; tests = layers.world.tests; stay = layers.world.stay };
+        world = record { table = layers.world.table; desk = layers.world.desk; handed = layers.world.handed; stay = layers.world.stay };
         calls = set_calls (running_at m.calls) (running_at new) others n None None refl runs h.calls;
         each = set_each (IsOf eq m.layers.table w.table w.stay w.desk.last) (running_at m.calls) (running_at new) n None (λ x e. absurd (cc)) runs h.reaches.each;
         used = set_used (place_at m.calls) (place_at new) n None puts (λ e. e) (λ k ne. h.reaches.used k (λ e. ne (sym h.number ∙ e)));

@@ -19,19 +19,19 @@ module _ {K V E T : Type 0} {same : PartialEq.Ghosts K} {hash : Hash.Ghosts K} (
   pub told_stands : (m : Machine K V E T same hash) (d : Desk K V E same hash) (s : State K V E) (n : ℕ) (a : Told V E) → MachineIs eq q m s → desk.StandsFor eq d (told s.world.desk n a) → keeps_history d ≡ true
       → MachineIs eq q (record m { layers = record m.layers { desk = d } }) (with_desk s (told s.world.desk n a))
   told_stands m d s n (answer.Value value) h k whole =
-      record { world = record { table = h.world.table; desk = k; tests = h.world.tests; stay = h.world.stay }; calls = h.calls; each = h.each; used = h.used; history = whole }
+      record { world = record { table = h.world.table; desk = k; handed = h.world.handed; stay = h.world.stay }; calls = h.calls; each = h.each; used = h.used; history = whole }
   told_stands m d s n answer.Nothing h k whole =
-      record { world = record { table = h.world.table; desk = k; tests = h.world.tests; stay = h.world.stay }; calls = h.calls; each = h.each; used = h.used; history = whole }
+      record { world = record { table = h.world.table; desk = k; handed = h.world.handed; stay = h.world.stay }; calls = h.calls; each = h.each; used = h.used; history = whole }
   told_stands m d s n (answer.Err error) h k whole =
-      record { world = record { table = h.world.table; desk = k; tests = h.world.tests; stay = h.world.stay }; calls = h.calls; each = h.each; used = h.used; history = whole }
+      record { world = record { table = h.world.table; desk = k; handed = h.world.handed; stay = h.world.stay }; calls = h.calls; each = h.each; used = h.used; history = whole }
   told_stands m d s n (answer.Op op) h k whole =
-      record { world = record { table = h.world.table; desk = k; tests = h.world.tests; stay = h.world.stay }; calls = h.calls; each = h.each; used = h.used; history = whole }
+      record { world = record { table = h.world.table; desk = k; handed = h.world.handed; stay = h.world.stay }; calls = h.calls; each = h.each; used = h.used; history = whole }
   told_stands m d s n answer.Done h k whole =
-      record { world = record { table = h.world.table; desk = k; tests = h.world.tests; stay = h.world.stay }; calls = h.calls; each = h.each; used = h.used; history = whole }
+      record { world = record { table = h.world.table; desk = k; handed = h.world.handed; stay = h.world.stay }; calls = h.calls; each = h.each; used = h.used; history = whole }
   told_stands m d s n answer.Off h k whole =
-      record { world = record { table = h.world.table; desk = k; tests = h.world.tests; stay = h.world.stay }; calls = h.calls; each = h.each; used = h.used; history = whole }
+      record { world = record { table = h.world.table; desk = k; handed = h.world.handed; stay = h.world.stay }; calls = h.calls; each = h.each; used = h.used; history = whole }
 
   pub still_stands : (m : Machine K V E T same hash) (d : Desk K V E same hash) (s : State K V E) → MachineIs eq q m s → desk.StandsFor eq d s.world.desk → keeps_history d ≡ true
       → MachineIs eq q (record m { layers = record m.layers { desk = d } }) s
   still_stands m d s h k whole =
-      record { world = record { table = h.world.table; desk = k; tests = h.world.tests; stay = h.world.stay }; calls = h.calls; each = h.each; used = h.used; history = whole }
+      record { world = record { table = h.world.table; desk = k; handed = h.world.handed; stay = h.world.stay }; calls = h.calls; each = h.each; used = h.used; history = whole }

@@ -1,4 +1,5 @@
 pub mod Calls
+pub mod Handed
 pub mod TheTable
 pub mod Machine
 pub mod Listed

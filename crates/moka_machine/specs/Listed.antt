@@ -9,6 +9,7 @@ use Rattle.moka_hist.specs.Plan.{held_by}
 use Rattle.moka_hist.specs.Visits.{number_of, cause_of}
 use Rattle.moka_hist.specs.declared.notices.Notice.{Notice}
 use Rattle.moka_hist.specs.declared.notices.NoticeState.TheVariants as notice
+use Rattle.moka_hist.specs.declared.predicates.Registered.{Registered}
 use Rattle.moka_hist.specs.declared.visits.Visit.{Visit}
 use Rattle.moka_hist.specs.declared.visits.Visit.TheVariants as visit
 use Rattle.moka_machine.specs.Calls.{opening_of}
@@ -73,3 +74,11 @@ module _ {K V E : Type 0} where
     pub live : Lists nat_eq calls s.calls
     pub all : IsPermutation (all_notices calls s) notices
     pub ascending : IsSortedByKey (λ x. x.number) nat_cmp notices
+
+-- the number of the predicate that was registered, and when it was
+abbrev pub test_of : Registered → ℕ × ℕ
+test_of r = (r.test, r.moment)
+
+-- the predicates of the state, in the order of registering
+abbrev pub tests_in : {K V E : Type 0} → DeskPart K V E → List (ℕ × ℕ)
+tests_in w = map test_of w.registered

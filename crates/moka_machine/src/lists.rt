@@ -1,14 +1,15 @@
-//! The lists of a machine's state: what is stored, and where each write stands.
+//! The lists of a machine's state: what is stored, where each write stands, and which predicates are
+//! registered.
 ghost use Rattle.std.specs.Prelude.{◌≡◌, ◌++◌, ℕ, List, map, nat_eq, IfOk, OnOk};
 ghost use Rattle.moka_hist.specs.Finite.{Lists};
 ghost use Rattle.moka_hist.specs.State.{Call, State};
 ghost use Rattle.moka_hist.specs.Visits.{number_of};
 ghost use Rattle.moka_table.specs.Map.{ListsPairs};
 ghost use Rattle.moka_machine.specs.Machine.{MachineIs};
-ghost use Rattle.moka_machine.specs.Listed.{at_place, all_places, ArePlaces};
+ghost use Rattle.moka_machine.specs.Listed.{at_place, all_places, tests_in, ArePlaces};
 
 use crate::machine::Machine;
-use moka_hist::{Listing, Owed, Place, Tests, Write};
+use moka_hist::{Listing, Owed, Place, TestList, Tests, Write};
 use moka_table::{EntryList, Table};
 use moka_values::Exact;
 use std::alloc::{AllocError, Global};
@@ -97,6 +98,15 @@ impl<K: Eq + Hash + Exact, V: Exact, E: Exact, T: Tests<K, V> + Drop> Machine<K,
         let mut places = self.unsorted(alloc)?;
         places.sort_unstable_by_key(|place| place.0);
         Ok(PlaceList::from_vec(places))
+    }
+
+    /// Lists the numbers of the registered predicates, in the order of registering, each with the
+    /// moment at which it was registered, in nanoseconds.
+    pub fn tests(&self, alloc: Global) -> Result<TestList, AllocError>
+        ensures { IfOk result (λ tests. (s : State K V E) → MachineIs K.eq T.Tests self.now s
+            → tests ≡ tests_in s.world.desk) }
+    {
+        self.layers.desk.tests(alloc)
     }
 
     /// Lists the places in another order, which is mostly that of the numbers: applied, logged,

@@ -1,11 +1,12 @@
 //! The machine: a table, a desk and the live calls.
-ghost use Rattle.std.specs.Prelude.{◌≡◌, ◌≤◌, false, Err, IfOk, IfErr, IfNone, IfSome, OnErr};
+ghost use Rattle.std.specs.Prelude.{◌≡◌, ◌≤◌, Err, IfOk, IfErr, IfNone, IfSome, OnErr};
 
 use crate::calls::Calls;
 use crate::serving::unpolled;
 use moka_desk::Desk;
 use moka_engine::Policy;
 use moka_hist::{BuildError, Event, Reply, Rules, Tests};
+use moka_ids::PcgIds;
 use moka_init::Unfinished;
 use moka_layers::Layers;
 use moka_table::{PlainCall, PlainTable};
@@ -35,20 +36,26 @@ pub struct Machine<K: Eq + Hash, V, E, T> {
 impl<K: Eq + Hash + Exact, V: Exact, E: Exact, T: Tests<K, V> + Drop> Machine<K, V, E, T> {
     ghost use Rattle.moka_hist.specs.State.{State, fresh};
     ghost use Rattle.moka_hist.specs.Settings.{refusal_of};
+    ghost use Rattle.moka_machine.specs.Handed.{handed_with};
     ghost use Rattle.moka_machine.specs.Machine.{MachineIs, IsValid, ServesEvent, Stops};
     ghost use Rattle.moka_machine.specs.TheTable.{the_division};
     ghost use Rattle.moka_machine.specs.WantOfMemory.{MayStopServing};
 
-    /// Builds a fresh cache of these rules, with a log of this many writes, 1 to 65536, and these
-    /// tests. It is refused where a time is too long, the time to live first, whatever memory
-    /// there is; else `Memory` is the only error. A cache of capacity 0 is disabled: it stores
-    /// nothing.
-    pub fn build(alloc: Global, rules: Rules, log: usize, tests: T) -> Result<Self, BuildError>
-        requires closures { rules.closures ≡ false }
+    /// Builds a fresh cache of these rules, with a log of this many writes, 1 to 65536, these tests
+    /// and predicates, and the ids of this seed. It is refused where a time is too long, the time to
+    /// live first, whatever memory there is; else `Memory` is the only error. A cache of capacity 0
+    /// is disabled: it stores nothing.
+    pub fn build(
+        alloc: Global,
+        rules: Rules,
+        log: usize,
+        seed: u64,
+        tests: T,
+    ) -> Result<Self, BuildError>
         requires least { 1 ≤ log }
         requires most { log ≤ 65536 }
         ensures fresh { IfOk result (λ m. MachineIs K.eq T.Tests m
-            (fresh K V E (the_division K) rules log (T.answers tests))) }
+            (fresh K V E (the_division K) rules log (handed_with T.Tests tests seed))) }
         ensures valid { IfOk result (λ m. IsValid K.eq T.Tests m) }
         ensures refused { IfSome (refusal_of rules) (λ refusal. result ≡ Err refusal) }
         ensures memory { IfNone (refusal_of rules) (IfErr result (λ e. e ≡ BuildError.Memory)) }
@@ -56,18 +63,24 @@ impl<K: Eq + Hash + Exact, V: Exact, E: Exact, T: Tests<K, V> + Drop> Machine<K,
         if let Some(refusal) = rules.refusal() {
             return Err(refusal);
         }
-        match Machine::made(alloc, rules, log, tests) {
+        match Machine::made(alloc, rules, log, seed, tests) {
             Ok(machine) => Ok(machine),
             Err(_) => Err(BuildError::Memory),
         }
     }
 
     // A fresh cache of these rules, whatever their times are.
-    fn made(alloc: Global, rules: Rules, log: usize, tests: T) -> Result<Self, AllocError>
+    fn made(
+        alloc: Global,
+        rules: Rules,
+        log: usize,
+        seed: u64,
+        tests: T,
+    ) -> Result<Self, AllocError>
         requires least { 1 ≤ log }
         requires most { log ≤ 65536 }
         ensures fresh { IfOk result (λ m. MachineIs K.eq T.Tests m
-            (fresh K V E (the_division K) rules log (T.answers tests))) }
+            (fresh K V E (the_division K) rules log (handed_with T.Tests tests seed))) }
         ensures valid { IfOk result (λ m. IsValid K.eq T.Tests m) }
     {
         let desk = Desk::new(alloc, rules, log)?;
@@ -78,6 +91,7 @@ impl<K: Eq + Hash + Exact, V: Exact, E: Exact, T: Tests<K, V> + Drop> Machine<K,
                 call: 0,
                 begun: None,
                 tests,
+                ids: PcgIds::new(seed),
             },
             calls: Calls::new(alloc),
         })

@@ -41,8 +41,9 @@ module _ {K V E : Type 0} where
   need_of (visit.ApplyOne n) = need.ApplyOne
   need_of (visit.EndTurn n) = need.EndTurn
   need_of visit.InvalidateAll = need.InvalidateAll
+  need_of (visit.Register test) = need.Register
 
-  -- the visit is one of this call; four kinds of visits don't name theirs
+  -- the visit is one of this call; five kinds of visits don't name theirs
   abbrev pub IsOfCall : ℕ → Visit K V E → Type 0
   IsOfCall call (visit.Clock n) = n ≡ call
   IsOfCall call (visit.TakeOwed n) = n ≡ call
@@ -65,3 +66,4 @@ module _ {K V E : Type 0} where
   IsOfCall call (visit.ApplyOne n) = n ≡ call
   IsOfCall call (visit.EndTurn n) = n ≡ call
   IsOfCall call visit.InvalidateAll = Unit {0}
+  IsOfCall call (visit.Register test) = Unit {0}

@@ -37,4 +37,5 @@ pub enum Need<K> {
     ApplyOne,
     EndTurn,
     InvalidateAll,
+    Register,
 }

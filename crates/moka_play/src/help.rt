@@ -17,9 +17,11 @@ A schedule is lines of text. The first line is cache, and then these options, ea
 order:
   cap=N                      the capacity is N; a cache of capacity 0 stores nothing
   log=N                      the write log has room for N writes, 1 to 65536; without it for 384
+  seed=N                     the ids of predicates are drawn from N; without it from 0
   ttl=N                      a record has expired N nanoseconds after its last write
   tti=N                      a record has expired N nanoseconds after it was last seen or written
   listener                   a listener hears of each record that is replaced or taken out
+  closures                   records may be invalidated by predicates
 and each other line is an event:
   at MOMENT                  the clock moves on to the moment, in nanoseconds
   start get KEY              a call looks the key up
@@ -38,6 +40,8 @@ and each other line is an event:
   start invalidate KEY       a call takes the key's record out
   start remove KEY           a call takes the key's record out, and answers its value
   start invalidate_all       a call hides all records that were written before the clock
+  start invalidate_if TEST   a call registers a predicate: it hides each record on which the test
+                             holds, but for those that are written later
   start iter                 a call walks: it gives the records that a look shows, one at a time
   start evict KEY STAMP CAUSE
                              a call takes the key's record out, where it is the one of this stamp
@@ -62,7 +66,8 @@ A call that waits is not woken: it is polled again.
 
 A report is a line for each event, then for each stored record, ascending by key,
 then for each committed write, ascending by number, with where it stands,
-then for each notice, ascending by number, with how far it is.
+then for each notice, ascending by number, with how far it is,
+then for each registered predicate, in order of registering, with its moment.
 
 behind writes to the cache first, and to a keeper later. Its lines:
   set KEY VALUE              the pair is stored, and is a write that is still to be sent

@@ -30,7 +30,7 @@ use Rattle.moka_small.specs.Seen.{answer_of, reply_to, rules_of}
 use Rattle.moka_small.specs.Small.{End, With_value, With_nothing, With_error, Small, Stand, Begun, Asks, Was_told, Waits, empty, is_plain_start, started, with_stand}
 use Rattle.moka_polled.specs.Outcomes.{call_in, outcome_in, says_told}
 use Rattle.moka_polled.specs.Polled.{AnySmall, IsPolled, IsServed, IsUsable, IsSpent, MayDrop, Takes, is_end}
-use Rattle.moka_polled.specs.Tests.{no_test, no_tests}
+use Rattle.moka_polled.specs.Tests.{no_tests, none_handed}
 use Rattle.moka_polled.specs.declared.no_tests.NoTests.{NoTests}
 use Rattle.moka_polled.specs.declared.machine.PolledMachine.{PolledMachine}
 
@@ -247,13 +247,13 @@ module _ {K V E : Type 0} {same : PartialEq.Ghosts K} {hash : Hash.Ghosts K} (eq
 -- a fresh machine is seen as the empty small state
 pub builds : {K V E : Type 0} {same : PartialEq.Ghosts K} {hash : Hash.Ghosts K} (eq : K → K → Bool)
     (machine : Machine K V E NoTests same hash) (capacity : Option ℕ) (log : ℕ) → FreshIsEmpty K V E eq →
-    capacity ≢ Some 0 → 1 ≤ log → MachineIs eq no_tests machine (fresh K V E (the_division K) (rules_of capacity) log no_test) →
+    capacity ≢ Some 0 → 1 ≤ log → MachineIs eq no_tests machine (fresh K V E (the_division K) (rules_of capacity) log none_handed) →
     IsPolled eq (record { machine = machine; spent = false }) (empty capacity)
 builds {K} {V} {E} eq machine capacity log law stores least stands = record {
   unspent = refl;
-  state = fresh K V E (the_division K) (rules_of capacity) log no_test;
+  state = fresh K V E (the_division K) (rules_of capacity) log none_handed;
   stands = stands;
-  seen = law (the_division K) capacity log no_test
+  seen = law (the_division K) capacity log none_handed
       (record { some = omega arith; few = omega arith; part = λ q. omega arith; alike = λ a b e. refl })
       (omega (arith, least)) (by capacity stores);
 }

@@ -21,6 +21,9 @@ outcome_by answer.RetriesExhausted = None
 outcome_by answer.Evicted = Some outcome.Evicted
 outcome_by answer.Kept = Some outcome.Kept
 outcome_by answer.End = None
+outcome_by (answer.Id id) = None
+outcome_by answer.ClosuresDisabled = None
+outcome_by answer.NoId = None
 
 -- and of one that replied so: none where the reply is no poll's
 abbrev pub outcome_in : {K V E : Type 0} → Reply K V E → Option (Outcome V E)

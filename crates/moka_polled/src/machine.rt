@@ -61,7 +61,7 @@ impl<K: Eq + Hash + Exact, V: Exact, E: Exact> PolledMachine<K, V, E> {
             listener: false,
             closures: false,
         };
-        match Machine::build(alloc, rules, log, NoTests) {
+        match Machine::build(alloc, rules, log, 0, NoTests) {
             Ok(machine) => Ok(PolledMachine {
                 machine,
                 spent: false,
@@ -70,8 +70,8 @@ impl<K: Eq + Hash + Exact, V: Exact, E: Exact> PolledMachine<K, V, E> {
         }
     }
 
-    /// Starts a call, and answers its number. The call has no replace test, and is no compute and no
-    /// invalidation of all. The end of the numbers counts as want of memory.
+    /// Starts a call, and answers its number. The call has no replace test, is no compute and no walk,
+    /// and invalidates neither all nor by a predicate. The end of the numbers counts as want of memory.
     pub fn start(&mut self, start: Start<K, V>) -> Result<u64, AllocError>
         requires plain { is_plain_start start ≡ true }
         requires usable { IsUsable K.eq self.old AnySmall }

@@ -1,8 +1,8 @@
-//! Tests of records, of which none holds.
+//! Tests and predicates of records, of which none holds.
 
 use moka_hist::Tests;
 
-/// Tests of records, of which none holds.
+/// Tests and predicates of records, of which none holds.
 #[derive(Clone, Copy, PartialEq, Eq, Debug)]
 pub struct NoTests;
 
@@ -11,7 +11,13 @@ impl<K, V> Tests<K, V> for NoTests {
 
     ghost answers = { λ it. no_test };
 
+    ghost hides = { λ it. no_test };
+
     fn holds(&self, _test: u64, _key: &K, _value: &V) -> bool {
+        false
+    }
+
+    fn does_hide(&self, _test: u64, _key: &K, _value: &V) -> bool {
         false
     }
 }

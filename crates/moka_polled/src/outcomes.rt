@@ -17,8 +17,8 @@ pub(crate) fn outcome_of<K: Drop, V: Drop, E: Drop>(reply: Reply<K, V, E>) -> Op
     }
 }
 
-// The outcome of a poll that answered so: none where a compute answered, a call gave up, or a walk
-// ended.
+// The outcome of a poll that answered so: none where a compute answered, a call gave up, a walk
+// ended, or a predicate was or wasn't registered.
 fn outcome_of_answer<K: Drop, V: Drop, E: Drop>(answer: Answer<K, V, E>) -> Option<Outcome<V, E>>
     ensures { result ≡ outcome_by answer }
 {

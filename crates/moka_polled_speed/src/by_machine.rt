@@ -47,7 +47,7 @@ fn built(alloc: Global) -> Result<Events, AllocError>
         listener: false,
         closures: false,
     };
-    match Machine::build(alloc, rules, LOG, NoTests) {
+    match Machine::build(alloc, rules, LOG, 0, NoTests) {
         Ok(machine) => Ok(machine),
         Err(_) => Err(AllocError),
     }

@@ -1,6 +1,8 @@
 -- A whole poll leaves a calm cache calm.
 use Rattle.std.proofs.Common.{◌≡◌, ◌+◌, ◌==◌, ℕ, Bool, true, false, cond, List, [], ◌∷◌, ◌++◌, map, Option, Some, None, refl, sym, ap, ◌∙◌, subst}
 use Rattle.std.proofs.lemmas.Bool.{false≢true}
+use Rattle.moka_hist.specs.Visits.{registering}
+use Rattle.moka_hist.specs.Invalidating.{registering_answer}
 use Rattle.moka_hist.specs.State.{World, Call, DeskPart, TablePart}
 use Rattle.moka_hist.specs.Plan.{Item, Aim, Change, Removal, is_disabled, load_rest, loaded, put, take_out, told_on}
 use Rattle.moka_hist.specs.Plan as plan
@@ -415,6 +417,8 @@ module _ {K V E : Type 0} (eq : K → K → Bool) (n : ℕ) (rules : Rules)
       go _ b rest these h (same w _ refl refl refl still)
   item_steps w b plan.Invalidate_all rest these p i h still =
       go _ b rest these h (same w _ refl refl refl still)
+  item_steps w b (plan.Register test) rest these p i h still =
+      replies _ b (registering_answer (registering w.desk)) these (same w _ refl refl refl still)
   item_steps w b (plan.List_keys part) rest these p i h still = (
     λ more. undecided _ b these p (same w _ refl refl refl still),
     λ listed keys is given. go _ b (map plan.Find keys ++ rest) these (finds_hold keys rest h)

@@ -5,7 +5,7 @@ use Rattle.moka_hist.specs.State.{State, World, Call, DeskPart, TablePart}
 use Rattle.moka_hist.specs.Plan.{Item, Removal, look, under_lock, plan_of}
 use Rattle.moka_hist.specs.Plan as plan
 use Rattle.moka_hist.specs.Causes.{chosen_holds}
-use Rattle.moka_hist.specs.Visits.{times_at}
+use Rattle.moka_hist.specs.Visits.{is_hit, times_at}
 use Rattle.moka_hist.specs.Tables.{removed, taken_by}
 use Rattle.moka_hist.specs.Next.{goes}
 use Rattle.moka_hist.specs.Looking.{kept_rest, chosen_or_not}
@@ -36,12 +36,13 @@ module _ {K V E : Type 0} (eq : K → K → Bool) (s : State K V E) (n : ℕ) (k
   chosen = has_to_leave s key stamp cause
 
   -- the cause holds of the record
-  abbrev holds : DeskPart K V E → Stored V → Bool
-  holds d found = chosen_holds d.rules (times_at d found.stamp found.modified) false cause
+  abbrev holds : DeskPart K V E → K → Stored V → Bool
+  holds d there found =
+      chosen_holds d.rules (times_at d found.stamp found.modified) (is_hit d there found) cause
 
   -- whether what is stored has to leave
   abbrev chosen_of : Option (K × Stored V) → Bool
-  chosen_of pair = option_map_or (λ p. p.1.stamp == stamp && holds s.world.desk p.1) pair false
+  chosen_of pair = option_map_or (λ p. p.1.stamp == stamp && holds s.world.desk p.0 p.1) pair false
 
   -- the end, where the record is evicted or not
   abbrev replied : Bool → Reply K V E
@@ -96,7 +97,7 @@ module _ {K V E : Type 0} (eq : K → K → Bool) (s : State K V E) (n : ℕ) (k
   chooses there found e true is w m p at =
       on Begun Phase (Ends end) w mode.Mid _ (Holds there found e is at)
   chooses there found e false is w m p at =
-      stays (ap chosen_of e ∙ ap (λ b. b && holds s.world.desk found) is) w (along Begun m p)
+      stays (ap chosen_of e ∙ ap (λ b. b && holds s.world.desk there found) is) w (along Begun m p)
       quiet.plain.unheard at
 
   steps : Steps Begun Phase (Ends end) eq n
@@ -121,9 +122,9 @@ module _ {K V E : Type 0} (eq : K → K → Bool) (s : State K V E) (n : ℕ) (k
         λ remains. stays (here false remains) w (along Begun m p) quiet.plain.unheard at,
       )
     where
-      here : (b : Bool) → holds w.desk found ≡ b → chosen ≡ b
-      here b it = ap chosen_of e ∙ ap (λ v. v && holds s.world.desk found) is ∙
-          sym (ap (λ d. holds d found) at.desk) ∙ it
+      here : (b : Bool) → holds w.desk there found ≡ b → chosen ≡ b
+      here b it = ap chosen_of e ∙ ap (λ v. v && holds s.world.desk there found) is ∙
+          sym (ap (λ d. holds d there found) at.desk) ∙ it
   steps w m p (Taking there found e is leaves q takes) =
       takes_steps eq n Begun Phase (Ends end) t s.world.desk quiet.free quiet.owes quiet.plain.unheard
       removal key (λ v r i. Taking there found e is leaves r i)

@@ -31,7 +31,7 @@ use Rattle.moka_polls.proofs.Phases.{poll_ends}
 use Rattle.moka_polls.proofs.Calming.{Phase, Fin, Rests, calm_steps, put_holds, take_out_holds}
 
 pub fresh_calm : {K V E : Type 0} → FreshIsCalm K V E
-fresh_calm division rules size tests unheard = record {
+fresh_calm division rules size built unheard = record {
   unheard = unheard;
   free = refl;
   owes = refl;
@@ -102,6 +102,7 @@ begun_holds {K = K} {V = V} E parts rules (start.Evict key stamp cause) unheard 
     subst (λ b. HoldsNothing (under_lock {V = V} {E = E} b key
     (look (plan.To_evict key stamp cause) key))) (sym unheard) (tt, tt)
 begun_holds {K = K} {V = V} E parts rules start.InvalidateAll unheard = (tt, (tt, tt))
+begun_holds {K = K} {V = V} E parts rules (start.InvalidateIf test) unheard = (tt, tt)
 begun_holds {K = K} {V = V} E parts rules start.Iter unheard = iter_holds K V E (is_disabled rules) parts
 begun_holds {K = K} {V = V} E parts rules _ unheard = (tt, tt)
 

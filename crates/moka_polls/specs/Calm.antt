@@ -1,6 +1,6 @@
 -- Calm states: no call is on its way, so that each poll begins anew.
 use Rattle.std.specs.Prelude.{◌≡◌, ◌≢◌, ℕ, Bool, false, List, [], ◌∷◌, Some, None}
-use Rattle.moka_hist.specs.State.{Call, Division, State, fresh}
+use Rattle.moka_hist.specs.State.{Call, Division, State, fresh, Handed}
 use Rattle.moka_hist.specs.Plan.{Item, is_disabled}
 use Rattle.moka_hist.specs.Plan as plan
 use Rattle.moka_hist.specs.Run.{Any, Happens}
@@ -53,8 +53,8 @@ module _ {K V E : Type 0} where
 -- a fresh cache without a listener is calm
 abbrev pub FreshIsCalm : (K V E : Type 0) → Type 0
 FreshIsCalm K V E =
-    (division : Division K) (rules : Rules) (size : ℕ) (tests : ℕ → K → V → Bool) →
-    rules.listener ≡ false → IsCalm (fresh K V E division rules size tests)
+    (division : Division K) (rules : Rules) (size : ℕ) (built : Handed K V) →
+    rules.listener ≡ false → IsCalm (fresh K V E division rules size built)
 
 -- each event but a single step leaves a calm state calm
 abbrev pub StaysCalm : (K V E : Type 0) → (K → K → Bool) → Type 0

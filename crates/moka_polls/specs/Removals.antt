@@ -3,7 +3,7 @@ use Rattle.std.specs.Prelude.{ℕ, ◌==◌, Bool, false, cond, ◌&&◌, None}
 use Rattle.std.specs.Option.{option_map_or}
 use Rattle.moka_hist.specs.State.{State, TablePart}
 use Rattle.moka_hist.specs.Causes.{chosen_holds}
-use Rattle.moka_hist.specs.Visits.{invalidated_all, times_at}
+use Rattle.moka_hist.specs.Visits.{invalidated_all, is_hit, times_at}
 use Rattle.moka_hist.specs.Tables.{by_pair, removed}
 use Rattle.moka_hist.specs.Run.{Any, Happens}
 use Rattle.moka_hist.specs.declared.rules.Cause.{Cause}
@@ -25,7 +25,8 @@ module _ {K V E : Type 0} where
   has_to_leave s key stamp cause =
       option_map_or
       (λ p. p.1.stamp == stamp &&
-      chosen_holds s.world.desk.rules (times_at s.world.desk p.1.stamp p.1.modified) false cause)
+      chosen_holds s.world.desk.rules (times_at s.world.desk p.1.stamp p.1.modified)
+      (is_hit s.world.desk p.0 p.1) cause)
       (s.world.table.stored key) false
 
 -- an invalidate is done, and is gone; nothing is stored under its key, and the desk stays

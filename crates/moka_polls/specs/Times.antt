@@ -1,5 +1,5 @@
 -- What calls see where no record expires.
-use Rattle.std.specs.Prelude.{◌≡◌, ℕ, Bool, not, Option, None}
+use Rattle.std.specs.Prelude.{◌≡◌, ℕ, Bool, not, [], Option, None}
 use Rattle.moka_hist.specs.State.{DeskPart, State}
 use Rattle.moka_hist.specs.Visits.{is_replaced_by, is_seen}
 use Rattle.moka_hist.specs.declared.records.Stored.{Stored}
@@ -10,6 +10,7 @@ pub record HasNoTimes {K V E : Type 0} (w : DeskPart K V E) : Type 0 where
   pub live : w.rules.time_to_live ≡ None
   pub idle : w.rules.time_to_idle ≡ None
   pub valid : w.valid_after ≡ None
+  pub unhit : w.registered ≡ []
 
 -- then a call sees a record unless its replace test holds on it
 abbrev pub SeenWithoutTimes : (K V E : Type 0) → (K → K → Bool) → Type 0

@@ -15,12 +15,12 @@ use Rattle.moka_run.specs.declared.report.Report.{Report}
 use Rattle.moka_run.proofs.ByKey.{sorted_list}
 
 -- a text of the replies, of the stored pairs sorted by key, and of the places reports the run
-pub reported : (settings : Settings) (log : ℕ) (events : List (Event ℕ ℕ ℕ)) (report : Report ℕ ℕ ℕ) (sorted entries : List (ℕ × Stored ℕ)) (replies : List (Reply ℕ ℕ ℕ)) (places : List (ℕ × Place)) (notices : List (Notice ℕ ℕ)) (text : List ℕ)
+pub reported : (settings : Settings) (log : ℕ) (events : List (Event ℕ ℕ ℕ)) (report : Report ℕ ℕ ℕ) (sorted entries : List (ℕ × Stored ℕ)) (replies : List (Reply ℕ ℕ ℕ)) (places : List (ℕ × Place)) (notices : List (Notice ℕ ℕ)) (tests : List (ℕ × ℕ)) (text : List ℕ)
     → RunsFresh settings log events report → ReachedIsUnderOwnKeys ℕ ℕ ℕ nat_eq
     → IsPermutation report.entries sorted → IsSortedByKey (λ e. e.0) nat_cmp sorted
-    → replies ≡ report.replies → entries ≡ sorted → places ≡ report.places → notices ≡ report.notices
-    → text ≡ report_text replies entries places notices → ReportsRun settings log events text
-reported settings log events report sorted entries replies places notices text ran own all ascending same_replies same_entries same_places same_notices is =
+    → replies ≡ report.replies → entries ≡ sorted → places ≡ report.places → notices ≡ report.notices → tests ≡ report.tests
+    → text ≡ report_text replies entries places notices tests → ReportsRun settings log events text
+reported settings log events report sorted entries replies places notices tests text ran own all ascending same_replies same_entries same_places same_notices same_tests is =
     record {
       rules = ran.rules;
       ruled = ran.ruled;
@@ -33,5 +33,7 @@ reported settings log events report sorted entries replies places notices text r
       stand = ran.reports.places;
       notices = report.notices;
       noticed = ran.reports.notices;
-      is = rw (is, same_replies, same_entries, same_places, same_notices) refl;
+      tests = report.tests;
+      registered = ran.reports.tests;
+      is = rw (is, same_replies, same_entries, same_places, same_notices, same_tests) refl;
     }

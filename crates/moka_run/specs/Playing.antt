@@ -1,11 +1,11 @@
 -- What `play` reads and writes.
-use Rattle.std.specs.Prelude.{◌≡◌, ◌⊎◌, ℕ, ◌<◌, ◌≤◌, List, [], ◌∷◌, map, length, take, nat_eq, codes, Option}
+use Rattle.std.specs.Prelude.{◌≡◌, ℕ, ◌<◌, ◌≤◌, List, length, nat_eq, codes, Option, unwrap_or}
 use Rattle.std.specs.List.Sorted.{IsStrictlyIncreasing}
 use Rattle.std.specs.Map.{lookup, keys_of}
 use Rattle.std.specs.Option.{option_map}
 use Rattle.std.specs.declared.string.String.{String}
 use Rattle.std.specs.declared.alloc.Global.{Global}
-use Rattle.moka_hist.specs.State.{State, fresh}
+use Rattle.moka_hist.specs.State.{Handed, State, fresh}
 use Rattle.moka_hist.specs.Places.{IsLawful}
 use Rattle.moka_hist.specs.Run.{Run, IsReached}
 use Rattle.moka_hist.specs.Settings.{AreRulesOf}
@@ -16,12 +16,13 @@ use Rattle.moka_hist.specs.declared.events.Event.{Event}
 use Rattle.moka_hist.specs.declared.records.Stored.{Stored}
 use Rattle.moka_hist.specs.declared.replies.Reply.{Reply}
 use Rattle.moka_hist.specs.declared.writes.Place.{Place}
+use Rattle.moka_ids.specs.Drawn.{ids_from, seeded}
 use Rattle.moka_table.specs.Map.{Pairs}
 use Rattle.moka_text.specs.ReportText.{report_text}
 use Rattle.moka_text.specs.ScheduleText.{Says, IsFirstBad}
 use Rattle.moka_machine.specs.NumberTest.{number_test}
 use Rattle.moka_machine.specs.TheTable.{the_division}
-use Rattle.moka_machine.specs.Listed.{AreNotices, ArePlaces}
+use Rattle.moka_machine.specs.Listed.{AreNotices, ArePlaces, tests_in}
 use Rattle.moka_run.specs.Report.{Reports}
 use Rattle.moka_run.specs.declared.report.Report.{Report}
 use Rattle.moka_lines.specs.Programs.{IsWord, ReadsAll, WritesAnswer, WritesFront, Responds, BreaksOff, EndsAs, most_bytes}
@@ -39,36 +40,48 @@ pub record ListsByKey (entries : List (ℕ × Stored ℕ)) (stored : Pairs ℕ �
   pub each : (key : ℕ) → lookup (nat_eq key) entries ≡ option_map (λ p. p.1) (stored key)
   pub ascending : IsStrictlyIncreasing (keys_of entries)
 
--- What was run on a fresh cache of rules that are of these settings, with a log of this size, is to
--- be reported so.
+-- what the cache of a schedule is handed: replace tests and predicates of the same numbers, and the
+-- ids of this seed, of 0 where none is set
+abbrev pub numbers_handed : Option ℕ → Handed ℕ ℕ
+numbers_handed seed =
+    record {
+      tests = number_test;
+      predicates = number_test;
+      ids = ids_from (seeded (unwrap_or seed 0));
+    }
+
+-- What was run on a fresh cache of rules that are of these settings, with a log of this size and the
+-- ids of their seed, is to be reported so.
 pub record RunsFresh (settings : Settings) (log : ℕ) (events : List (Event ℕ ℕ ℕ))
     (report : Report ℕ ℕ ℕ) : Type 0 where
   pub rules : Rules
   pub ruled : AreRulesOf settings rules
   pub final : State ℕ ℕ ℕ
-  pub run : Run nat_eq (IsLawful nat_eq) (fresh ℕ ℕ ℕ (the_division ℕ) rules log number_test)
-      events report.replies final
-  pub reports : Reports nat_eq report.entries report.places report.notices final
+  pub run : Run nat_eq (IsLawful nat_eq)
+      (fresh ℕ ℕ ℕ (the_division ℕ) rules log (numbers_handed settings.seed)) events report.replies final
+  pub reports : Reports nat_eq report.entries report.places report.notices report.tests final
   pub reached : IsReached nat_eq final
 
 -- The text reports a run of the reference cache on the events, from a fresh cache of rules that are
--- of these settings, with a log of this size, in which each state is lawful: its replies, and what
--- stands after it.
+-- of these settings, with a log of this size and the ids of their seed, in which each state is lawful:
+-- its replies, and what stands after it.
 pub record ReportsRun (settings : Settings) (log : ℕ) (events : List (Event ℕ ℕ ℕ))
     (text : List ℕ) : Type 0 where
   pub rules : Rules
   pub ruled : AreRulesOf settings rules
   pub replies : List (Reply ℕ ℕ ℕ)
   pub final : State ℕ ℕ ℕ
-  pub run : Run nat_eq (IsLawful nat_eq) (fresh ℕ ℕ ℕ (the_division ℕ) rules log number_test)
-      events replies final
+  pub run : Run nat_eq (IsLawful nat_eq)
+      (fresh ℕ ℕ ℕ (the_division ℕ) rules log (numbers_handed settings.seed)) events replies final
   pub entries : List (ℕ × Stored ℕ)
   pub stored : ListsByKey entries final.world.table.stored
   pub places : List (ℕ × Place)
   pub stand : ArePlaces places final
   pub notices : List (Notice ℕ ℕ)
   pub noticed : AreNotices notices final
-  pub is : text ≡ report_text replies entries places notices
+  pub tests : List (ℕ × ℕ)
+  pub registered : tests ≡ tests_in final.world.desk
+  pub is : text ≡ report_text replies entries places notices tests
 
 -- the text is the report of the schedule that the bytes say
 pub record IsReport (bytes text : List ℕ) : Type 0 where

@@ -1,5 +1,5 @@
 //! The report of a schedule, from its text to its text.
-ghost use Rattle.std.specs.Prelude.{◌≡◌, ◌<◌, ◌≤◌, ℕ, false, length, nat_eq, IfOk, IsErrOf, None, IsPermutation, IsSortedByKey};
+ghost use Rattle.std.specs.Prelude.{◌≡◌, ◌<◌, ◌≤◌, ℕ, length, nat_eq, IfOk, IsErrOf, None, IsPermutation, IsSortedByKey};
 ghost use Rattle.std.specs.Ordering.{nat_cmp};
 ghost use Rattle.std.specs.String.{string_bytes};
 ghost use Rattle.moka_text.specs.ScheduleText.{IsFirstBad, Says, SettingsFit};
@@ -7,9 +7,9 @@ ghost use Rattle.moka_hist.specs.State.{State, fresh};
 ghost use Rattle.moka_hist.specs.Settings.{refusal_of};
 ghost use Rattle.moka_hist.specs.Run.{IsReached};
 ghost use Rattle.moka_machine.specs.Machine.{IsValid, MachineIs};
-ghost use Rattle.moka_machine.specs.NumberTest.{number_test, number_tests};
+ghost use Rattle.moka_machine.specs.NumberTest.{number_tests};
 ghost use Rattle.moka_machine.specs.TheTable.{the_division};
-ghost use Rattle.moka_run.specs.Playing.{IsReport, ReportsRun, RunsFresh};
+ghost use Rattle.moka_run.specs.Playing.{IsReport, ReportsRun, RunsFresh, numbers_handed};
 ghost use Rattle.moka_run.specs.Running.{Answers};
 
 use crate::report::{ReplyList, Report, list_all, report_of};
@@ -49,21 +49,21 @@ fn replies_to(
     }
 }
 
-/// Builds the cache of rules that aren't refused.
+/// Builds the cache of rules that aren't refused, with the ids of the seed, of 0 where none is set.
 fn build(
     alloc: Global,
     rules: Rules,
     log: usize,
+    seed: Option<u64>,
 ) -> Result<Machine<u32, u32, u32, NumberTests>, AllocError>
-    requires closures { rules.closures ≡ false }
     requires accepted { refusal_of rules ≡ None }
     requires least { 1 ≤ log }
     requires most { log ≤ 65536 }
     ensures fresh { IfOk result (λ machine. MachineIs nat_eq number_tests machine
-        (fresh ℕ ℕ ℕ (the_division ℕ) rules log number_test)) }
+        (fresh ℕ ℕ ℕ (the_division ℕ) rules log (numbers_handed seed))) }
     ensures valid { IfOk result (λ machine. IsValid nat_eq number_tests machine) }
 {
-    match Machine::build(alloc, rules, log, NumberTests) {
+    match Machine::build(alloc, rules, log, seed.unwrap_or(0), NumberTests) {
         Ok(machine) => Ok(machine),
         Err(BuildError::Memory) => Err(AllocError),
         Err(BuildError::TimeToLiveTooLong | BuildError::TimeToIdleTooLong) => unreachable!(),
@@ -85,7 +85,7 @@ fn run_fresh(
 {
     moka_laws::reached_by_lawful_run::<u32, u32, u32>();
     schedules_are_never_refused();
-    let mut machine = build(alloc, settings.rules(), log)?;
+    let mut machine = build(alloc, settings.rules(), log, settings.seed)?;
     let replies = replies_to(alloc, &mut machine, events)?;
     let lists = list_all(alloc, &machine)?;
     Ok(report_of(replies, lists))
@@ -112,6 +112,7 @@ fn report_on(
         entries,
         places,
         notices,
+        tests,
     } = report;
     let entries = sorted(entries);
     write_report(
@@ -120,6 +121,7 @@ fn report_on(
         &entries,
         places.as_slice(),
         notices.as_slice(),
+        tests.as_slice(),
     )
 }
 

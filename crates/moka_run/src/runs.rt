@@ -42,7 +42,7 @@ pub fn run<K: Eq + Hash + Exact, V: Exact, E: Exact, T: Tests<K, V> + Drop>(
     ensures run { IfOk result (λ report. (s : State K V E)
         → MachineIs K.eq T.Tests cache.old s → IsReached K.eq s
         → (a : Answers K.eq T.Tests events.now report.replies cache.new s)
-        × Reports K.eq report.entries report.places report.notices a.final) }
+        × Reports K.eq report.entries report.places report.notices report.tests a.final) }
     ensures answered { IfOk result (λ report. length report.replies ≡ length events.now) }
     ensures memory { IfErr result (λ m. (s : State K V E)
         → MachineIs K.eq T.Tests cache.old s → IsReached K.eq s

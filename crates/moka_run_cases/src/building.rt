@@ -18,7 +18,7 @@ fn refusal(alloc: Global, live: Option<Duration>, idle: Option<Duration>) -> Opt
         listener: false,
         closures: false,
     };
-    match Machine::<u32, u32, u32, NumberTests>::build(alloc, rules, 8, NumberTests) {
+    match Machine::<u32, u32, u32, NumberTests>::build(alloc, rules, 8, 0, NumberTests) {
         Ok(machine) => {
             drop(machine);
             None

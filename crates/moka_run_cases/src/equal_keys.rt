@@ -115,7 +115,7 @@ fn spellings_on(
 
 /// The spellings in the replies to the events, on a fresh cache.
 fn spellings(alloc: Global, events: &[Event<Name, u32, u16>]) -> Result<String, AllocError> {
-    let Ok(mut cache) = Machine::build(alloc, RULES, LOG, NoTests) else {
+    let Ok(mut cache) = Machine::build(alloc, RULES, LOG, 0, NoTests) else {
         return Err(AllocError);
     };
     let spelled = spellings_on(alloc, &mut cache, events);

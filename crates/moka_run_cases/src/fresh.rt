@@ -27,7 +27,8 @@ pub fn machine_for(
         return Err(AllocError);
     }
     let rules = schedule.settings.rules();
-    Machine::build(alloc, rules, schedule.log, NumberTests).map_err(|_| AllocError)
+    let seed = schedule.settings.seed.unwrap_or(0);
+    Machine::build(alloc, rules, schedule.log, seed, NumberTests).map_err(|_| AllocError)
 }
 
 /// The reply to one event. None where memory is wanting.

@@ -30,6 +30,8 @@ mod orders;
 #[cfg(test)]
 mod pieces;
 #[cfg(test)]
+mod predicates;
+#[cfg(test)]
 mod removals;
 #[cfg(test)]
 mod rows;

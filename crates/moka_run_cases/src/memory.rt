@@ -145,17 +145,18 @@ fn text_of_report(
     entries.sort_unstable_by_key(|entry| entry.0);
     let places = report.places.as_slice();
     let notices = report.notices.as_slice();
-    match write_report(rt.alloc(), replies, &entries, places, notices) {
+    let tests = report.tests.as_slice();
+    match write_report(rt.alloc(), replies, &entries, places, notices, tests) {
         Ok(text) => Ok(text),
         Err(_) => {
             eprintln!(rt; "wanting in {name}: after the run")?;
-            Ok(write_report(rt.alloc(), replies, &entries, places, notices)?)
+            Ok(write_report(rt.alloc(), replies, &entries, places, notices, tests)?)
         }
     }
 }
 
 /// Schedules with their reports, and a name for each.
-const ROWS: [(&str, &str, &str); 31] = [
+const ROWS: [(&str, &str, &str); 32] = [
     (
         "a_get",
         "cache log=8 / start get 1 / poll 1",
@@ -295,6 +296,11 @@ const ROWS: [(&str, &str, &str); 31] = [
         "an_invalidation_of_all",
         "cache log=8 tti=10 listener / start insert 1 5 / poll 1 / at 20 / start invalidate_all / poll 2 / start insert 1 6 / poll 3 / tell 3 done / poll 3 / start get 1 / poll 4",
         "call 1 / answer done / at / call 2 / answer done / call 3 / ask listener 1 5 Explicit / told / answer done / call 4 / answer some 6 / entry 1 6 stamp 3 at 20 / write 1 logged / write 3 logged / notice 3 1 5 Explicit ended",
+    ),
+    (
+        "predicates",
+        "cache log=8 closures / start invalidate_if 2 / poll 1 / start insert 1 4 / poll 2 / start get 1 / poll 3 / at 1 / start insert 1 6 / poll 4 / start get 1 / poll 5 / start invalidate_if 3 / poll 6",
+        "call 1 / answer id 20ae25da-d4e2-4c53-98f9-38e12bbf69fb / call 2 / answer done / call 3 / answer none / at / call 4 / answer done / call 5 / answer some 6 / call 6 / answer id b5b235d6-0cf8-4231-89f7-1ee2b019a7da / entry 1 6 stamp 4 at 1 / write 2 logged / write 4 logged / test 2 at 0 / test 3 at 1",
     ),
     (
         "a_walk",

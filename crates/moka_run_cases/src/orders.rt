@@ -215,7 +215,7 @@ fn machine_of(alloc: Global, times: Times) -> Result<Walked, AllocError>
         listener: false,
         closures: false,
     };
-    Machine::build(alloc, rules, LOG, NumberTests).map_err(|_| AllocError)
+    Machine::build(alloc, rules, LOG, 0, NumberTests).map_err(|_| AllocError)
 }
 
 /// Carries an order out, and then its walks to their ends. Answers the first act whose reply is

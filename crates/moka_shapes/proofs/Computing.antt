@@ -63,6 +63,7 @@ module _ {K V E : Type 0} (key : K) (Other : Type 0) (May : Answer K V E → Typ
   Suits (plan.Holds under stamp cause there stored) = ⊥
   Suits (plan.Moment (plan.To_take_out removal under)) = SuitsRemoval removal
   Suits (plan.Out removal under) = SuitsRemoval removal
+  Suits (plan.Register test) = ⊥
   Suits (plan.List_keys part) = ⊥
   Suits (plan.Find under) = ⊥
   Suits (plan.Scan there stored) = ⊥
@@ -202,6 +203,7 @@ module _ {K V E : Type 0} (key : K) (Other : Type 0) (May : Answer K V E → Typ
       (λ k old off some. on (Suits key Other May) May _ (λ b g. cc) (tt, said_suits key Other May removal _ (q.0.0 old.value))),
       λ k old is_on some. on (Suits key Other May) May _ (λ b g. cc) (tt, (tt, (tt, said_suits key Other May removal _ (q.0.0 old.value)))),
     )
+    on_item (plan.Register test) rest e q = absurd q.0
     on_item (plan.List_keys part) rest e q = absurd q.0
     on_item (plan.Find under) rest e q = absurd q.0
     on_item (plan.Scan there stored) rest e q = absurd q.0

@@ -97,6 +97,7 @@ module _ {K V E : Type 0} (kind : Kind) (Judged : Type 0) (May : Answer K V E �
   Suits (plan.Holds key stamp cause there stored) = ⊥
   Suits (plan.Moment (plan.To_take_out removal key)) = ⊥
   Suits (plan.Out removal key) = ⊥
+  Suits (plan.Register test) = ⊥
   Suits (plan.List_keys part) = ⊥
   Suits (plan.Find under) = ⊥
   Suits (plan.Scan there stored) = ⊥
@@ -213,6 +214,7 @@ module _ {K V E : Type 0} (kind : Kind) (Judged : Type 0) (May : Answer K V E �
       λ k old is_on some. on (Suits kind Judged May) May _ (λ b g. cc) (tt, (tt, (tt, q.1))),
     )
     on_item (plan.Out removal key) rest e q = absurd q.0
+    on_item (plan.Register test) rest e q = absurd q.0
     on_item (plan.List_keys part) rest e q = absurd q.0
     on_item (plan.Find under) rest e q = absurd q.0
     on_item (plan.Scan there stored) rest e q = absurd q.0

@@ -293,6 +293,7 @@ module _ {K V E : Type 0} (eq : K → K → Bool) (laws : IsEquivalence eq) wher
     begins_only (start.Evict key stamp cause) live =
         of_begun (start.Evict key stamp cause) key refl (evicts_only key stamp cause)
     begins_only start.InvalidateAll live = stays_put (Begun start.InvalidateAll)
+    begins_only (start.InvalidateIf test) live = stays_put (Begun (start.InvalidateIf test))
     begins_only start.Iter live = stays_put (Begun start.Iter)
 
     -- ---- an owner that ends

@@ -35,13 +35,14 @@ use Rattle.moka_small.proofs.Viewing.{after, is_put, part_at, still_none}
 -- ---- a fresh cache
 
 pub fresh_empty : {K V E : Type 0} (eq : K → K → Bool) → FreshIsEmpty K V E eq
-fresh_empty {K} {V} {E} eq division capacity size tests divides has_log stores = record {
-  reached = fresh_reached eq division divides (rules_of capacity) size tests has_log;
-  calm = fresh_calm division (rules_of capacity) size tests refl;
+fresh_empty {K} {V} {E} eq division capacity size built divides has_log stores = record {
+  reached = fresh_reached eq division divides (rules_of capacity) size built has_log;
+  calm = fresh_calm division (rules_of capacity) size built refl;
   views = record {
     rules = refl;
     stores = stores;
     valid = refl;
+    unhit = refl;
     last = refl;
     stored = λ key. refl;
     calls = λ n. refl;
@@ -106,6 +107,7 @@ module _ {K V E : Type 0} (m : Small K V E) (orderly : IsOrderly m) (begin : Sta
     rules = views.rules;
     stores = views.stores;
     valid = views.valid;
+    unhit = views.unhit;
     last = ap (λ i. i + 1) views.last;
     stored = views.stored;
     calls = λ k.
@@ -160,6 +162,7 @@ module _ {K V E : Type 0} (eq : K → K → Bool) where
               (record {
                 rules = refl;
                 valid = refl;
+                registered = refl;
                 last = refl;
                 owning = right_put s.world.desk.owning m.stands (option_and_then load_at) seen.views.owning n (Some (Was_told load end))
                     (part_at m n (Asks load) live s.world.desk.owning load_at seen.views.owning);
@@ -219,6 +222,7 @@ module _ {K V E : Type 0} (eq : K → K → Bool) where
               (record {
                 rules = refl;
                 valid = refl;
+                registered = refl;
                 last = refl;
                 owning = is_put m n stand live s.world.desk.owning load_at seen.views.owning None None refl;
                 joined = is_put m n stand live s.world.desk.joined owner_at seen.views.joined None None refl;

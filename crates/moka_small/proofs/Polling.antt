@@ -1,5 +1,6 @@
 -- What a whole poll comes to.
-use Rattle.std.proofs.Common.{◌≡◌, ℕ, ◌==◌, nat_lt, Bool, true, false, cond, ◌&&◌, ◌||◌, [], ◌∷◌, Option, Some, None, is_some, refl, sym, ap, ◌∙◌, subst}
+use Rattle.std.specs.List.{list_any}
+use Rattle.std.proofs.Common.{◌≡◌, ℕ, ◌==◌, nat_lt, Bool, true, false, cond, ◌&&◌, ◌||◌, List, [], ◌∷◌, Option, Some, None, is_some, refl, sym, ap, ◌∙◌, subst}
 use Rattle.std.specs.Cmp.{IsEquivalence}
 use Rattle.std.specs.Option.{option_map, option_and_then, option_map_or}
 use Rattle.std.proofs.lemmas.Bool.{false≢true}
@@ -12,7 +13,7 @@ use Rattle.moka_hist.specs.Step.{takes_of}
 use Rattle.moka_hist.specs.Causes.{chosen_holds}
 use Rattle.moka_hist.specs.Tables.{by_pair, removed}
 use Rattle.moka_hist.specs.Visible.{is_invalid}
-use Rattle.moka_hist.specs.Visits.{accessed_at, settlement_for, readers_without, settled_without, read, times_at}
+use Rattle.moka_hist.specs.Visits.{accessed_at, does_hit, is_hit, settlement_for, readers_without, settled_without, read, times_at}
 use Rattle.moka_hist.specs.declared.visits.Settled.{Settled}
 use Rattle.moka_hist.specs.Run.{Any, Happens, IsReached, fresh_call}
 use Rattle.moka_hist.specs.declared.events.Event.TheVariants as event
@@ -21,6 +22,7 @@ use Rattle.moka_hist.specs.declared.events.Start.TheVariants as start
 use Rattle.moka_hist.specs.declared.loads.Kind.{Kind}
 use Rattle.moka_hist.specs.declared.loads.Kind.TheVariants as kind
 use Rattle.moka_hist.specs.declared.loads.Load.{Load}
+use Rattle.moka_hist.specs.declared.predicates.Registered.{Registered}
 use Rattle.moka_hist.specs.declared.records.Stored.{Stored}
 use Rattle.moka_hist.specs.declared.replies.Answer.{Answer}
 use Rattle.moka_hist.specs.declared.replies.Answer.TheVariants as answer
@@ -82,6 +84,7 @@ module _ {K V E : Type 0} (eq : K → K → Bool) (s new : State K V E) (m : Sma
     live = ap (λ rules. rules.time_to_live) views.rules;
     idle = ap (λ rules. rules.time_to_idle) views.rules;
     valid = views.valid;
+    unhit = views.unhit;
   }
 
   seen_is : (key : K) → seen_in s.world.table s.world.desk None key ≡ value_under m key
@@ -97,6 +100,7 @@ module _ {K V E : Type 0} (eq : K → K → Bool) (s new : State K V E) (m : Sma
     desk_gone a b c d = record {
       rules = refl;
       valid = refl;
+      registered = refl;
       last = refl;
       owning = still_none m n stand live s.world.desk.owning load_at views.owning None a refl;
       joined = still_none m n stand live s.world.desk.joined owner_at views.joined None b refl;
@@ -169,6 +173,7 @@ module _ {K V E : Type 0} (eq : K → K → Bool) (s new : State K V E) (m : Sma
           (record {
             rules = refl;
             valid = refl;
+            registered = refl;
             last = refl;
             owning = is_put m n (Begun begin) live s.world.desk.owning load_at views.owning (Some load) (Some (Asks load)) refl;
             joined = still_none m n (Begun begin) live s.world.desk.joined owner_at views.joined (Some (Asks load)) refl refl;
@@ -192,6 +197,7 @@ module _ {K V E : Type 0} (eq : K → K → Bool) (s new : State K V E) (m : Sma
           (record {
             rules = refl;
             valid = refl;
+            registered = refl;
             last = refl;
             owning = still_none m n (Begun begin) live s.world.desk.owning load_at views.owning (Some (Waits owner load)) refl refl;
             joined = is_put m n (Begun begin) live s.world.desk.joined owner_at views.joined (Some owner) (Some (Waits owner load)) refl;
@@ -250,23 +256,25 @@ module _ {K V E : Type 0} (eq : K → K → Bool) (s new : State K V E) (m : Sma
       by (s.world.table.stored key) ∙
       ap (λ x. option_map_or (λ kept. kept.1 == stamp && cause_holds m.capacity cause) x false) (views.stored key)
     where
-      hidden : Stored V → Option ℕ → Bool
-      hidden found valid =
+      hidden : K → Stored V → Option ℕ → List Registered → Bool
+      hidden there found valid registered =
           (is_invalid found.modified valid ||
-          is_invalid (accessed_at s.world.desk found.stamp found.modified) valid) || false
+          is_invalid (accessed_at s.world.desk found.stamp found.modified) valid) || list_any (does_hit s.world.desk there found) registered
 
-      holds : (rules : Rules) → rules ≡ rules_of m.capacity → (found : Stored V) → (cause : Cause) →
-          chosen_holds rules (times_at s.world.desk found.stamp found.modified) false cause ≡ cause_holds m.capacity cause
-      holds rules is found Size = ap (λ these. is_some these.max_capacity) is
-      holds rules is found Explicit = ap (hidden found) views.valid
-      holds rules is found Expired = ap (λ these. chosen_holds these (times_at s.world.desk found.stamp found.modified) false Expired) is
-      holds rules is found Replaced = refl
+      holds : (rules : Rules) → rules ≡ rules_of m.capacity → (there : K) (found : Stored V) → (cause : Cause) →
+          chosen_holds rules (times_at s.world.desk found.stamp found.modified) (is_hit s.world.desk there found) cause ≡ cause_holds m.capacity cause
+      holds rules is there found Size = ap (λ these. is_some these.max_capacity) is
+      holds rules is there found Explicit =
+          ap (λ valid. hidden there found valid s.world.desk.registered) views.valid ∙ ap (hidden there found None) views.unhit
+      holds rules is there found Expired =
+          ap (λ these. chosen_holds these (times_at s.world.desk found.stamp found.modified) (is_hit s.world.desk there found) Expired) is
+      holds rules is there found Replaced = refl
 
       by : (x : Option (K × Stored V)) →
-          option_map_or (λ p. p.1.stamp == stamp && chosen_holds s.world.desk.rules (times_at s.world.desk p.1.stamp p.1.modified) false cause) x false ≡
+          option_map_or (λ p. p.1.stamp == stamp && chosen_holds s.world.desk.rules (times_at s.world.desk p.1.stamp p.1.modified) (is_hit s.world.desk p.0 p.1) cause) x false ≡
           option_map_or (λ kept. kept.1 == stamp && cause_holds m.capacity cause) (option_map small_record x) false
       by None = refl
-      by (Some pair) = ap (λ b. pair.1.stamp == stamp && b) (holds s.world.desk.rules views.rules pair.1 cause)
+      by (Some pair) = ap (λ b. pair.1.stamp == stamp && b) (holds s.world.desk.rules views.rules pair.0 pair.1 cause)
 
   evicts_so : (key : K) (stamp : ℕ) (cause : Cause) → m.stands n ≡ Some (Begun (start.Evict key stamp cause)) →
       Row (begins eq m n (start.Evict key stamp cause))
@@ -311,6 +319,7 @@ module _ {K V E : Type 0} (eq : K → K → Bool) (s new : State K V E) (m : Sma
       (gives.replies ∙ ap (λ v. reply.Answer (answer.Found v)) (value_is key), taken_so _ live key _ gives)
   begins_so (start.Evict key stamp cause) live = evicts_so key stamp cause live
   begins_so start.InvalidateAll live = absurd (false≢true (views.orderly.begun n _ live))
+  begins_so (start.InvalidateIf test) live = absurd (false≢true (views.orderly.begun n _ live))
   begins_so start.Iter live = absurd (false≢true (views.orderly.begun n _ live))
 
   -- ---- later polls
@@ -332,6 +341,7 @@ module _ {K V E : Type 0} (eq : K → K → Bool) (s new : State K V E) (m : Sma
   desk_ended load end live = record {
     rules = refl;
     valid = refl;
+    registered = refl;
     last = refl;
     owning = is_put m n _ live s.world.desk.owning load_at views.owning None None refl;
     joined = still_none m n _ live s.world.desk.joined owner_at views.joined None refl refl;
@@ -394,6 +404,7 @@ module _ {K V E : Type 0} (eq : K → K → Bool) (s new : State K V E) (m : Sma
   desk_read owner load live = record {
     rules = refl;
     valid = refl;
+    registered = refl;
     last = refl;
     owning = still_none m n _ live s.world.desk.owning load_at views.owning None refl refl;
     joined = is_put m n _ live s.world.desk.joined owner_at views.joined None None refl;

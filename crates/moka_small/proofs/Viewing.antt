@@ -14,6 +14,7 @@ pub record DeskIs {K V E : Type 0} (was desk : DeskPart K V E) (stands : ℕ →
     (ends : ℕ → Option (End V E)) : Type 0 where
   pub rules : desk.rules ≡ was.rules
   pub valid : desk.valid_after ≡ was.valid_after
+  pub registered : desk.registered ≡ was.registered
   pub last : desk.last ≡ was.last
   pub owning : (k : ℕ) → desk.owning k ≡ option_and_then load_at (stands k)
   pub joined : (k : ℕ) → desk.joined k ≡ option_and_then owner_at (stands k)
@@ -35,6 +36,7 @@ module _ {K V E : Type 0} (s new : State K V E) (m : Small K V E) (n : ℕ) (vie
     rules = ap (λ d. d.rules) gives.keeps ∙ is.rules ∙ views.rules;
     stores = views.stores;
     valid = ap (λ d. d.valid_after) gives.keeps ∙ is.valid ∙ views.valid;
+    unhit = ap (λ d. d.registered) gives.keeps ∙ is.registered ∙ views.unhit;
     last = ap (λ d. d.last) gives.keeps ∙ is.last ∙ views.last;
     stored = λ key. ap (λ t. option_map small_record (t.stored key)) gives.stores ∙ stored_is key;
     calls = λ k. ap (λ f. f k) gives.leaves ∙
@@ -55,6 +57,7 @@ module _ {K V E : Type 0} (s new : State K V E) (m : Small K V E) (n : ℕ) (vie
     rules = ap (λ d. d.rules) gives.keeps ∙ views.rules;
     stores = views.stores;
     valid = ap (λ d. d.valid_after) gives.keeps ∙ views.valid;
+    unhit = ap (λ d. d.registered) gives.keeps ∙ views.unhit;
     last = ap (λ d. d.last) gives.keeps ∙ views.last;
     stored = λ key. ap (λ t. option_map small_record (t.stored key)) gives.stores ∙ views.stored key;
     calls = λ k. ap (λ f. f k) gives.leaves ∙

@@ -1,7 +1,7 @@
 -- What each event does to a state, as the small state tells it.
 use Rattle.std.specs.Prelude.{◌≡◌, ◌≢◌, ◌<◌, ◌+◌, ℕ, Bool, true, false, Option, Some, None}
 use Rattle.std.specs.Option.{option_and_then, option_map_or}
-use Rattle.moka_hist.specs.State.{Division, State, fresh}
+use Rattle.moka_hist.specs.State.{Division, State, fresh, Handed}
 use Rattle.moka_hist.specs.Plan.{is_disabled}
 use Rattle.moka_hist.specs.Run.{Any, Divides, Happens, last_call}
 use Rattle.moka_hist.specs.Step.{takes_of}
@@ -20,9 +20,9 @@ use Rattle.moka_small.specs.Seen.{IsSeenAs, answer_of, reply_to, rules_of, takes
 -- small state
 abbrev pub FreshIsEmpty : (K V E : Type 0) → (K → K → Bool) → Type 0
 FreshIsEmpty K V E eq =
-    (division : Division K) (capacity : Option ℕ) (size : ℕ) (tests : ℕ → K → V → Bool) →
+    (division : Division K) (capacity : Option ℕ) (size : ℕ) (built : Handed K V) →
     Divides eq division → 0 < size → is_disabled (rules_of capacity) ≡ false →
-    IsSeenAs eq (fresh K V E division (rules_of capacity) size tests) (empty capacity)
+    IsSeenAs eq (fresh K V E division (rules_of capacity) size built) (empty capacity)
 
 -- a call that is started gets the next number, as long as there is one
 abbrev pub StartIsStarted : (K V E : Type 0) → (K → K → Bool) → Type 0

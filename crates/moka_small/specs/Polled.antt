@@ -126,6 +126,7 @@ module _ {K V E : Type 0} where
       (outcome.Evicted, record (gone m n) { stored = put_key eq m.stored key None })
       (outcome.Kept, gone m n)
   begins eq m n start.InvalidateAll = (outcome.Waits, m)
+  begins eq m n (start.InvalidateIf test) = (outcome.Waits, m)
   begins eq m n start.Iter = (outcome.Waits, m)
 
   -- a load that waits answers as its owner ended, if that has, and waits on if not

@@ -105,6 +105,7 @@ pub record Views {K V E : Type 0} (s : State K V E) (m : Small K V E) : Type 0 w
   pub rules : s.world.desk.rules ≡ rules_of m.capacity
   pub stores : is_disabled (rules_of m.capacity) ≡ false
   pub valid : s.world.desk.valid_after ≡ None
+  pub unhit : s.world.desk.registered ≡ []
   pub last : s.world.desk.last ≡ m.last
   pub stored : (key : K) → option_map small_record (s.world.table.stored key) ≡ m.stored key
   pub calls : (n : ℕ) → s.calls n ≡ option_map (call_at (rules_of m.capacity)) (m.stands n)

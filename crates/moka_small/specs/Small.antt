@@ -62,6 +62,7 @@ is_plain_start (start.Invalidate key) = true
 is_plain_start (start.Remove key) = true
 is_plain_start (start.Evict key stamp cause) = true
 is_plain_start start.InvalidateAll = false
+is_plain_start (start.InvalidateIf test) = false
 is_plain_start start.Iter = false
 
 module _ {K V E : Type 0} where

@@ -153,6 +153,7 @@ start_read (start.Invalidate key) h = rw (key_some key h) refl
 start_read (start.Remove key) h = rw (key_some key h) refl
 start_read (start.Evict key stamp cause) h = rw (evict_read key stamp cause h.0 h.1) refl
 start_read start.InvalidateAll h = refl
+start_read (start.InvalidateIf test) h = rw (call_some test h) refl
 start_read start.Iter h = refl
 
 pub told_read : (t : Told ℕ ℕ) → ToldFits t → told_of (told_words t) ≡ Some t
@@ -283,7 +284,8 @@ start_is bytes =
     (chosen P (bytes_eq word (codes "upsert")) _ _ (number_after (2 ^ 32) P start.Upsert (codes "upsert") bytes (omega arith) (λ n e h. (e, h)))
     (chosen P (bytes_eq word (codes "invalidate")) _ _ (number_after (2 ^ 32) P start.Invalidate (codes "invalidate") bytes (omega arith) (λ n e h. (e, h)))
     (chosen P (bytes_eq word (codes "remove")) _ _ (number_after (2 ^ 32) P start.Remove (codes "remove") bytes (omega arith) (λ n e h. (e, h)))
-    (chosen P (bytes_eq word (codes "evict")) _ _ (after_word (λ t. decimal t.0 ++ 32 ∷ chosen_words t.1.0 t.1.1) (λ t. (t.0 < 2 ^ 32) × (t.1.0 < 2 ^ 64)) P (λ t. start.Evict t.0 t.1.0 t.1.1) (codes "evict") bytes (evict_of (after_byte 32 bytes)) (λ t h. some_spaced (decimal t.0) (chosen_words t.1.0 t.1.1)) (evict_is (after_byte 32 bytes)) (λ t e h. (e, h))) tt))))))))))))))
+    (chosen P (bytes_eq word (codes "evict")) _ _ (after_word (λ t. decimal t.0 ++ 32 ∷ chosen_words t.1.0 t.1.1) (λ t. (t.0 < 2 ^ 32) × (t.1.0 < 2 ^ 64)) P (λ t. start.Evict t.0 t.1.0 t.1.1) (codes "evict") bytes (evict_of (after_byte 32 bytes)) (λ t h. some_spaced (decimal t.0) (chosen_words t.1.0 t.1.1)) (evict_is (after_byte 32 bytes)) (λ t e h. (e, h)))
+    (chosen P (bytes_eq word (codes "invalidate_if")) _ _ (number_after (2 ^ 64) P start.InvalidateIf (codes "invalidate_if") bytes (omega arith) (λ n e h. (e, h))) tt)))))))))))))))
 
 pub alone_is : (bytes : List ℕ) → IfSome (told_alone bytes) (λ t. (bytes ≡ told_words t) × ToldFits t)
 unfolding told_alone
@@ -329,6 +331,7 @@ some_start (start.Invalidate key) = omega arith
 some_start (start.Remove key) = omega arith
 some_start (start.Evict key stamp cause) = omega arith
 some_start start.InvalidateAll = omega arith
+some_start (start.InvalidateIf test) = omega arith
 some_start start.Iter = omega arith
 
 tell_is : (bytes : List ℕ) → IfSome (tell_of bytes) (λ t. (bytes ≡ decimal t.0 ++ 32 ∷ told_words t.1) × ((t.0 < 2 ^ 64) × ToldFits t.1))

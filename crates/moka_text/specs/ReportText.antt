@@ -17,6 +17,7 @@ use Rattle.moka_hist.specs.declared.rules.Cause.{Cause}
 use Rattle.moka_hist.specs.declared.notices.Notice.{Notice}
 use Rattle.moka_hist.specs.declared.notices.NoticeState.{NoticeState}
 use Rattle.moka_hist.specs.declared.notices.NoticeState.TheVariants as state
+use Rattle.moka_ids.specs.Text.{id_text}
 use Rattle.moka_lines.specs.Texts.{ended}
 use Rattle.moka_text.specs.Words.{cause_word}
 
@@ -42,6 +43,9 @@ answer_words answer.RetriesExhausted = codes "exhausted"
 answer_words answer.Evicted = codes "evicted"
 answer_words answer.Kept = codes "kept"
 answer_words answer.End = codes "end"
+answer_words (answer.Id id) = codes "id " ++ id_text id
+answer_words answer.ClosuresDisabled = codes "disabled"
+answer_words answer.NoId = codes "noid"
 
 abbrev pub refusal_words : Refusal → List ℕ
 refusal_words refusal.UnknownCall = codes "UnknownCall"
@@ -107,9 +111,14 @@ notice_line n =
     ended (codes "notice " ++ decimal n.number ++ 32 ∷ left_words n.key n.value n.cause
     ++ 32 ∷ state_word n.state)
 
--- the replies, then what is stored, then the committed writes, then the notices
+-- the line of a registered predicate: the number of its test, and the moment since which it stands
+abbrev pub test_line : ℕ × ℕ → List ℕ
+test_line t = ended (codes "test " ++ decimal t.0 ++ codes " at " ++ decimal t.1)
+
+-- the replies, then what is stored, then the committed writes, then the notices, then the predicates
 abbrev pub report_text :
-    List (Reply ℕ ℕ ℕ) → List (ℕ × Stored ℕ) → List (ℕ × Place) → List (Notice ℕ ℕ) → List ℕ
-report_text replies entries places notices =
+    List (Reply ℕ ℕ ℕ) → List (ℕ × Stored ℕ) → List (ℕ × Place) → List (Notice ℕ ℕ) → List (ℕ × ℕ)
+    → List ℕ
+report_text replies entries places notices tests =
     flat_map reply_line replies ++ flat_map entry_line entries ++ flat_map write_line places
-    ++ flat_map notice_line notices
+    ++ flat_map notice_line notices ++ flat_map test_line tests

@@ -85,6 +85,7 @@ start_by word rest =
     else if bytes_eq word (codes "remove") then option_map start.Remove (u32_in rest)
     else if bytes_eq word (codes "evict") then
     option_map (λ e. start.Evict e.0 e.1.0 e.1.1) (evict_of rest)
+    else if bytes_eq word (codes "invalidate_if") then option_map start.InvalidateIf (u64_in rest)
     else None
 
 -- what a call is started for: without a key by all of what stands there, and else by its first word
@@ -172,37 +173,43 @@ abbrev pub unless_left : {A : Type 0} → List ℕ → Option A → Option A
 unless_left [] value = value
 unless_left (b ∷ bytes) value = None
 
--- the settings of this capacity, these times and this switch
-abbrev pub settings_from : Option ℕ → Option ℕ → Option ℕ → Bool → Settings
-settings_from capacity live idle set =
+-- the settings of this capacity, this seed, these times and these switches
+abbrev pub settings_from : Option ℕ → Option ℕ → Option ℕ → Option ℕ → Bool → Bool → Settings
+settings_from capacity seed live idle heard closures =
     record {
       max_capacity = capacity;
       time_to_live = live;
       time_to_idle = idle;
-      listener = set;
+      listener = heard;
+      closures = closures;
+      seed = seed;
     }
 
 -- the size of the write log and the settings, from what is said of each option
 unfoldable pub made_of :
     Option (List ℕ) → Option (List ℕ) → Option (List ℕ) → Option (List ℕ) → Option (List ℕ)
-    → Option (ℕ × Settings)
-made_of cap log ttl tti listener = do
+    → Option (List ℕ) → Option (List ℕ) → Option (ℕ × Settings)
+made_of cap log seed ttl tti listener closures = do
   capacity ← number_of cap
   size ← log_of log
+  seeded ← number_of seed
   live ← number_of ttl
   idle ← number_of tti
-  set ← switch_of listener
-  Some (size, settings_from capacity live idle set)
+  heard ← switch_of listener
+  closed ← switch_of closures
+  Some (size, settings_from capacity seeded live idle heard closed)
 
 -- the size of the write log and the settings that the options say, one after the other
 abbrev pub options_of : List ℕ → Option (ℕ × Settings)
 options_of bytes =
     let cap : Option (List ℕ) × List ℕ = cut_option (codes " cap=") bytes in
     let log : Option (List ℕ) × List ℕ = cut_option (codes " log=") cap.1 in
-    let ttl : Option (List ℕ) × List ℕ = cut_option (codes " ttl=") log.1 in
+    let seed : Option (List ℕ) × List ℕ = cut_option (codes " seed=") log.1 in
+    let ttl : Option (List ℕ) × List ℕ = cut_option (codes " ttl=") seed.1 in
     let tti : Option (List ℕ) × List ℕ = cut_option (codes " tti=") ttl.1 in
     let listener : Option (List ℕ) × List ℕ = cut_option (codes " listener") tti.1 in
-    unless_left listener.1 (made_of cap.0 log.0 ttl.0 tti.0 listener.0)
+    let closures : Option (List ℕ) × List ℕ = cut_option (codes " closures") listener.1 in
+    unless_left closures.1 (made_of cap.0 log.0 seed.0 ttl.0 tti.0 listener.0 closures.0)
 
 -- the size of the write log and the settings that the first line says
 abbrev pub cache_of : List ℕ → Option (ℕ × Settings)

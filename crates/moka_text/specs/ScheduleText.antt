@@ -42,6 +42,7 @@ start_words (start.Remove key) = codes "remove " ++ decimal key
 start_words (start.Evict key stamp cause) =
     codes "evict " ++ (decimal key ++ 32 ∷ chosen_words stamp cause)
 start_words start.InvalidateAll = codes "invalidate_all"
+start_words (start.InvalidateIf test) = codes "invalidate_if " ++ decimal test
 start_words start.Iter = codes "iter"
 
 -- what an ask is told
@@ -80,6 +81,7 @@ StartFits (start.Invalidate key) = key < 2 ^ 32
 StartFits (start.Remove key) = key < 2 ^ 32
 StartFits (start.Evict key stamp cause) = (key < 2 ^ 32) × (stamp < 2 ^ 64)
 StartFits start.InvalidateAll = Unit {0}
+StartFits (start.InvalidateIf test) = test < 2 ^ 64
 StartFits start.Iter = Unit {0}
 
 -- errors are of 32 bits, as values are
@@ -118,13 +120,16 @@ cache_line log settings =
     codes "cache"
     ++ (option_words (codes "cap=") (option_map decimal settings.max_capacity)
     ++ (option_words (codes "log=") (option_map decimal log)
+    ++ (option_words (codes "seed=") (option_map decimal settings.seed)
     ++ (option_words (codes "ttl=") (option_map decimal settings.time_to_live)
     ++ (option_words (codes "tti=") (option_map decimal settings.time_to_idle)
-    ++ option_words (codes "listener") (switch settings.listener)))))
+    ++ (option_words (codes "listener") (switch settings.listener)
+    ++ option_words (codes "closures") (switch settings.closures)))))))
 
 -- the numbers that are set are of 64 bits
 pub record SettingsFit (settings : Settings) : Type 0 where
   pub capacity : IfSome settings.max_capacity (λ most. most < 2 ^ 64)
+  pub seed : IfSome settings.seed (λ seed. seed < 2 ^ 64)
   pub live : IfSome settings.time_to_live (λ nanos. nanos < 2 ^ 64)
   pub idle : IfSome settings.time_to_idle (λ nanos. nanos < 2 ^ 64)
 

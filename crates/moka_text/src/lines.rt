@@ -1,6 +1,6 @@
 //! The lines of events. A line's first word is cut off, and decides how the rest is read.
 
-ghost use Rattle.std.specs.Prelude.{◌≡◌, bytes_eq, codes};
+ghost use Rattle.std.specs.Prelude.{◌≡◌, bytes_eq};
 ghost use Rattle.moka_text.specs.ScheduleReading.{
   pair_of,
   cause_of,
@@ -19,6 +19,14 @@ ghost use Rattle.moka_text.specs.ScheduleReading.{
 use moka_hist::{Cause, Event, Op, Start, Told};
 use moka_lines::{after, cut, u32_in, u64_in};
 
+/// Whether the bytes spell this word.
+#[inline(always)]
+fn is_spelled(bytes: &[u8], word: &[u8]) -> bool
+    ensures { result ≡ bytes_eq bytes.now word.now }
+{
+    bytes == word
+}
+
 /// A key and a value, with one space between them.
 #[tactic(auto, unfolding(crate::specs::ScheduleReading::pair_of))]
 #[inline(always)]
@@ -36,13 +44,19 @@ fn pair_of(bytes: &[u8]) -> Option<(u32, u32)>
 fn cause_of(word: &[u8]) -> Option<Cause>
     ensures { result ≡ cause_of word.now }
 {
-    match word {
-        b"Expired" => Some(Cause::Expired),
-        b"Explicit" => Some(Cause::Explicit),
-        b"Replaced" => Some(Cause::Replaced),
-        b"Size" => Some(Cause::Size),
-        _ => None,
+    if is_spelled(word, b"Expired") {
+        return Some(Cause::Expired);
     }
+    if is_spelled(word, b"Explicit") {
+        return Some(Cause::Explicit);
+    }
+    if is_spelled(word, b"Replaced") {
+        return Some(Cause::Replaced);
+    }
+    if is_spelled(word, b"Size") {
+        return Some(Cause::Size);
+    }
+    None
 }
 
 /// A stamp and a cause, with one space between them.
@@ -101,36 +115,49 @@ fn load_of(bytes: &[u8]) -> Option<(u32, Option<u64>)>
 fn start_by(word: &[u8], rest: &[u8]) -> Option<Start<u32, u32>>
     ensures { result ≡ start_by word.now rest.now }
 {
-    match word {
-        b"get" => u32_in(rest).map(|key| Start::Get { key }),
-        b"insert" => pair_of(rest).map(|(key, value)| Start::Insert { key, value }),
-        b"get_with" => load_of(rest).map(|(key, replace)| Start::GetWith { key, replace }),
-        b"optional" => u32_in(rest).map(|key| Start::Optional { key }),
-        b"try" => u32_in(rest).map(|key| Start::Try { key }),
-        b"or_insert" => pair_of(rest).map(|(key, value)| Start::OrInsert { key, value }),
-        b"compute" => u32_in(rest).map(|key| Start::Compute { key }),
-        b"try_compute" => u32_in(rest).map(|key| Start::TryCompute { key }),
-        b"compute_alone" => u32_in(rest).map(|key| Start::ComputeAlone { key }),
-        b"upsert" => u32_in(rest).map(|key| Start::Upsert { key }),
-        b"invalidate" => u32_in(rest).map(|key| Start::Invalidate { key }),
-        b"remove" => u32_in(rest).map(|key| Start::Remove { key }),
-        b"evict" => evict_of(rest).map(|(key, (stamp, cause))| Start::Evict { key, stamp, cause }),
-        _ => None,
+    if is_spelled(word, b"get") {
+        return u32_in(rest).map(|key| Start::Get { key });
     }
-}
-
-/// Whether a call is started for all records. The words are matched whole.
-fn is_for_all(bytes: &[u8]) -> bool
-    ensures { result ≡ bytes_eq bytes.now (codes "invalidate_all") }
-{
-    bytes == b"invalidate_all".as_slice()
-}
-
-/// Whether a call is started to walk. The word is matched whole.
-fn is_walk(bytes: &[u8]) -> bool
-    ensures { result ≡ bytes_eq bytes.now (codes "iter") }
-{
-    bytes == b"iter".as_slice()
+    if is_spelled(word, b"insert") {
+        return pair_of(rest).map(|(key, value)| Start::Insert { key, value });
+    }
+    if is_spelled(word, b"get_with") {
+        return load_of(rest).map(|(key, replace)| Start::GetWith { key, replace });
+    }
+    if is_spelled(word, b"optional") {
+        return u32_in(rest).map(|key| Start::Optional { key });
+    }
+    if is_spelled(word, b"try") {
+        return u32_in(rest).map(|key| Start::Try { key });
+    }
+    if is_spelled(word, b"or_insert") {
+        return pair_of(rest).map(|(key, value)| Start::OrInsert { key, value });
+    }
+    if is_spelled(word, b"compute") {
+        return u32_in(rest).map(|key| Start::Compute { key });
+    }
+    if is_spelled(word, b"try_compute") {
+        return u32_in(rest).map(|key| Start::TryCompute { key });
+    }
+    if is_spelled(word, b"compute_alone") {
+        return u32_in(rest).map(|key| Start::ComputeAlone { key });
+    }
+    if is_spelled(word, b"upsert") {
+        return u32_in(rest).map(|key| Start::Upsert { key });
+    }
+    if is_spelled(word, b"invalidate") {
+        return u32_in(rest).map(|key| Start::Invalidate { key });
+    }
+    if is_spelled(word, b"remove") {
+        return u32_in(rest).map(|key| Start::Remove { key });
+    }
+    if is_spelled(word, b"evict") {
+        return evict_of(rest).map(|(key, (stamp, cause))| Start::Evict { key, stamp, cause });
+    }
+    if is_spelled(word, b"invalidate_if") {
+        return u64_in(rest).map(|test| Start::InvalidateIf { test });
+    }
+    None
 }
 
 /// What a call is started for.
@@ -147,10 +174,11 @@ fn start_of(bytes: &[u8]) -> Option<Start<u32, u32>>
     if let Some(key) = after(bytes, b"get ") {
         return u32_in(key).map(|key| Start::Get { key });
     }
-    if is_for_all(bytes) {
+    // A line without a key is matched whole.
+    if is_spelled(bytes, b"invalidate_all") {
         return Some(Start::InvalidateAll);
     }
-    if is_walk(bytes) {
+    if is_spelled(bytes, b"iter") {
         return Some(Start::Iter);
     }
     let (word, rest) = cut(bytes, b' ');
@@ -162,14 +190,22 @@ fn start_of(bytes: &[u8]) -> Option<Start<u32, u32>>
 fn told_alone(bytes: &[u8]) -> Option<Told<u32, u32>>
     ensures { result ≡ told_alone bytes.now }
 {
-    match bytes {
-        b"nothing" => Some(Told::Nothing),
-        b"nop" => Some(Told::Op(Op::Nop)),
-        b"remove" => Some(Told::Op(Op::Remove)),
-        b"done" => Some(Told::Done),
-        b"off" => Some(Told::Off),
-        _ => None,
+    if is_spelled(bytes, b"nothing") {
+        return Some(Told::Nothing);
     }
+    if is_spelled(bytes, b"nop") {
+        return Some(Told::Op(Op::Nop));
+    }
+    if is_spelled(bytes, b"remove") {
+        return Some(Told::Op(Op::Remove));
+    }
+    if is_spelled(bytes, b"done") {
+        return Some(Told::Done);
+    }
+    if is_spelled(bytes, b"off") {
+        return Some(Told::Off);
+    }
+    None
 }
 
 /// What an ask is told.

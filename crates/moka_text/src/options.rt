@@ -78,18 +78,23 @@ fn switch_of(said: Option<&[u8]>) -> Option<bool>
 fn made_of(
     cap: Option<&[u8]>,
     log: Option<&[u8]>,
+    seed: Option<&[u8]>,
     ttl: Option<&[u8]>,
     tti: Option<&[u8]>,
     listener: Option<&[u8]>,
+    closures: Option<&[u8]>,
 ) -> Option<(usize, Settings)>
     ensures { result ≡ made_of (option_copied cap.entry) (option_copied log.entry)
-        (option_copied ttl.entry) (option_copied tti.entry) (option_copied listener.entry) }
+        (option_copied seed.entry) (option_copied ttl.entry) (option_copied tti.entry)
+        (option_copied listener.entry) (option_copied closures.entry) }
 {
     let max_capacity = number_of(cap)?;
     let log = log_of(log)?;
+    let seed = number_of(seed)?;
     let time_to_live = number_of(ttl)?;
     let time_to_idle = number_of(tti)?;
     let listener = switch_of(listener)?;
+    let closures = switch_of(closures)?;
     Some((
         log,
         Settings {
@@ -97,6 +102,8 @@ fn made_of(
             time_to_live,
             time_to_idle,
             listener,
+            closures,
+            seed,
         },
     ))
 }
@@ -108,11 +115,13 @@ pub(crate) fn cache_of(line: &[u8]) -> Option<(usize, Settings)>
     let bytes = after(line, b"cache")?;
     let (cap, bytes) = cut_option(bytes, b" cap=");
     let (log, bytes) = cut_option(bytes, b" log=");
+    let (seed, bytes) = cut_option(bytes, b" seed=");
     let (ttl, bytes) = cut_option(bytes, b" ttl=");
     let (tti, bytes) = cut_option(bytes, b" tti=");
     let (listener, bytes) = cut_option(bytes, b" listener");
+    let (closures, bytes) = cut_option(bytes, b" closures");
     match bytes {
-        [] => made_of(cap, log, ttl, tti, listener),
+        [] => made_of(cap, log, seed, ttl, tti, listener, closures),
         [_, ..] => None,
     }
 }

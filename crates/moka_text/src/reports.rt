@@ -11,6 +11,7 @@ ghost use Rattle.moka_text.specs.ReportText.{
   write_line,
   state_word,
   notice_line,
+  test_line,
   report_text,
 };
 
@@ -18,6 +19,7 @@ use itoa::Buffer;
 use moka_hist::{
     Answer, Ask, Cause, CompResult, Notice, NoticeState, Place, Refusal, Reply, Stored,
 };
+use moka_ids::push_id;
 use std::alloc::{AllocError, Global};
 
 /// Appends a number in decimal. It takes fewer instructions than `write!`.
@@ -83,6 +85,16 @@ fn push_done(text: &mut String, done: &CompResult<u32, u32>) -> Result<(), Alloc
     }
 }
 
+/// Appends the line of an id.
+fn push_id_line(text: &mut String, id: u128) -> Result<(), AllocError>
+    ensures { OnOk result (string_bytes text.new
+        ≡ string_bytes text.old ++ reply_line (Reply.Answer (Answer.Id id))) }
+{
+    text.push_str("answer id ")?;
+    push_id(text, id)?;
+    text.push_str("\n")
+}
+
 /// Appends the line of an answer.
 fn push_answer(text: &mut String, answer: &Answer<u32, u32, u32>) -> Result<(), AllocError>
     ensures { OnOk result (string_bytes text.new
@@ -100,6 +112,9 @@ fn push_answer(text: &mut String, answer: &Answer<u32, u32, u32>) -> Result<(), 
         Answer::Evicted => text.push_str("answer evicted\n"),
         Answer::Kept => text.push_str("answer kept\n"),
         Answer::End => text.push_str("answer end\n"),
+        Answer::Id(id) => push_id_line(text, *id),
+        Answer::ClosuresDisabled => text.push_str("answer disabled\n"),
+        Answer::NoId => text.push_str("answer noid\n"),
     }
 }
 
@@ -307,34 +322,59 @@ fn push_notices(text: &mut String, notices: &[Notice<u32, u32>]) -> Result<(), A
     Ok(())
 }
 
+/// Appends the line of a registered predicate.
+fn push_test(text: &mut String, test: u64, moment: u64) -> Result<(), AllocError>
+    ensures { OnOk result (string_bytes text.new
+        ≡ string_bytes text.old ++ test_line (test, moment)) }
+{
+    text.push_str("test ")?;
+    push_number(text, test)?;
+    push_line(text, " at ", moment)
+}
+
+/// Appends the lines of the registered predicates.
+fn push_tests(text: &mut String, tests: &[(u64, u64)]) -> Result<(), AllocError>
+    ensures { OnOk result (string_bytes text.new
+        ≡ string_bytes text.old ++ flat_map test_line tests.now) }
+{
+    for (test, moment) in tests {
+        push_test(text, *test, *moment)?;
+    }
+    Ok(())
+}
+
 /// For how many bytes room is made before a report of so many lines is written: about as many as
 /// these take, since a text that grows is copied. Where they take more it grows.
-fn room_for(replies: usize, entries: usize, places: usize, notices: usize) -> usize {
+fn room_for(replies: usize, entries: usize, places: usize, others: usize) -> usize {
     replies
         .saturating_mul(20)
         .saturating_add(entries.saturating_mul(50))
         .saturating_add(places.saturating_mul(30))
-        .saturating_add(notices.saturating_mul(60))
+        .saturating_add(others.saturating_mul(60))
 }
 
 /// Writes a report: a line for each reply, then for each stored record, which stands beside its
-/// key, then for each committed write, by its number, then for each notice. Each list keeps its
-/// order.
+/// key, then for each committed write, by its number, then for each notice, then for each registered
+/// predicate, by the number of its test, with the moment at which it was registered, in nanoseconds.
+/// Each list keeps its order.
 pub fn write_report(
     alloc: Global,
     replies: &[Reply<u32, u32, u32>],
     entries: &[(u32, Stored<u32>)],
     places: &[(u64, Place)],
     notices: &[Notice<u32, u32>],
+    tests: &[(u64, u64)],
 ) -> Result<String, AllocError>
     ensures { IfOk result (λ text. string_bytes text
-        ≡ report_text replies.now entries.now places.now notices.now) }
+        ≡ report_text replies.now entries.now places.now notices.now tests.now) }
 {
-    let room = room_for(replies.len(), entries.len(), places.len(), notices.len());
+    let others = notices.len().saturating_add(tests.len());
+    let room = room_for(replies.len(), entries.len(), places.len(), others);
     let mut text = String::with_capacity(alloc, room)?;
     push_replies(&mut text, replies)?;
     push_entries(&mut text, entries)?;
     push_writes(&mut text, places)?;
     push_notices(&mut text, notices)?;
+    push_tests(&mut text, tests)?;
     Ok(text)
 }

@@ -1,6 +1,6 @@
 -- What is read back after it was stored. The errors of loads are numbers, which no lookup answers.
 use Rattle.std.specs.Prelude.{◌≡◌, ℕ, Bool, false, List, [], ◌∷◌, Option, None}
-use Rattle.moka_hist.specs.State.{State, fresh}
+use Rattle.moka_hist.specs.State.{Handed, State, fresh}
 use Rattle.moka_hist.specs.Places.{IsLawful}
 use Rattle.moka_hist.specs.Run.{Run}
 use Rattle.moka_hist.specs.declared.events.Event.{Event}
@@ -11,6 +11,7 @@ use Rattle.moka_hist.specs.declared.record_tests.Tests as Tests
 use Rattle.moka_hist.specs.declared.rules.Rules.{Rules}
 use Rattle.moka_hist.specs.declared.replies.Reply.{Reply}
 use Rattle.moka_hist.specs.declared.replies.Reply.TheVariants as reply
+use Rattle.moka_ids.specs.Drawn.{ids_from, seeded}
 use Rattle.moka_machine.specs.TheTable.{the_division}
 use Rattle.moka_uses.specs.declared.reading.NoTests.{NoTests}
 
@@ -29,13 +30,17 @@ no_rules =
 abbrev pub log_size : ℕ
 log_size = 8
 
--- no test holds
+-- no test holds, and no predicate
 abbrev pub no_test : {K V : Type 0} → ℕ → K → V → Bool
 no_test number key value = false
 
 -- what contracts see of tests of which none holds
 abbrev pub no_tests : {K V : Type 0} → Tests.Ghosts NoTests K V
-no_tests = record { answers = λ it. no_test }
+no_tests = record { answers = λ it. no_test; hides = λ it. no_test }
+
+-- what the caller's cache is handed: these tests, and ids of seed 0, of which it draws none
+abbrev pub no_tests_handed : {K V : Type 0} → Handed K V
+no_tests_handed = record { tests = no_test; predicates = no_test; ids = ids_from (seeded 0) }
 
 module _ {K V : Type 0} where
   -- the value is stored under the key, by call 1
@@ -57,7 +62,7 @@ pub record IsReadBack {K V : Type 0} (eq : K → K → Bool) (key : K) (value : 
     : Type 0 where
   pub stored : List (Reply K V ℕ)
   pub mid : State K V ℕ
-  pub stores : Run eq (IsLawful eq) (fresh K V ℕ (the_division K) no_rules log_size no_test)
+  pub stores : Run eq (IsLawful eq) (fresh K V ℕ (the_division K) no_rules log_size no_tests_handed)
       (storing key value) stored mid
   pub call : Reply K V ℕ
   pub last : Reply K V ℕ

@@ -6,7 +6,7 @@ ghost use Rattle.moka_hist.specs.declared.replies.Reply.{Reply};
 ghost use Rattle.moka_machine.specs.Machine.{MachineIs, IsValid};
 ghost use Rattle.moka_machine.specs.TheTable.{the_division};
 ghost use Rattle.moka_run.specs.Running.{Answers};
-ghost use Rattle.moka_uses.specs.ReadBack.{IsReadBack, found_in, log_size, looking, no_rules, no_test, no_tests, storing};
+ghost use Rattle.moka_uses.specs.ReadBack.{IsReadBack, found_in, log_size, looking, no_rules, no_tests, no_tests_handed, storing};
 
 use moka_hist::{Answer, Event, Reply, Rules, Start, Tests};
 use moka_run::{Machine, Report, run};
@@ -26,7 +26,7 @@ const RULES: Rules = Rules {
 /// How many writes the cache's log has room for.
 const LOG: usize = 8;
 
-/// Tests of records, of which none holds.
+/// Tests and predicates of records, of which none holds.
 #[derive(Clone, Copy, PartialEq, Eq, Debug)]
 pub struct NoTests;
 
@@ -35,7 +35,13 @@ impl<K, V> Tests<K, V> for NoTests {
 
     ghost answers = { λ it. no_test };
 
+    ghost hides = { λ it. no_test };
+
     fn holds(&self, _test: u64, _key: &K, _value: &V) -> bool {
+        false
+    }
+
+    fn does_hide(&self, _test: u64, _key: &K, _value: &V) -> bool {
         false
     }
 }
@@ -118,10 +124,10 @@ fn build<K: Eq + Hash + Exact, V: Exact>(
     alloc: Global,
 ) -> Result<Machine<K, V, u16, NoTests>, AllocError>
     ensures fresh { IfOk result (λ cache. MachineIs K.eq no_tests cache
-        (fresh K V ℕ (the_division K) no_rules log_size no_test)) }
+        (fresh K V ℕ (the_division K) no_rules log_size no_tests_handed)) }
     ensures valid { IfOk result (λ cache. IsValid K.eq no_tests cache) }
 {
-    match Machine::build(alloc, RULES, LOG, NoTests) {
+    match Machine::build(alloc, RULES, LOG, 0, NoTests) {
         Ok(cache) => Ok(cache),
         Err(_) => Err(AllocError),
     }

@@ -130,7 +130,7 @@ module _ {T C : Type 0} {same : PartialEq.Ghosts ℕ} {hash : Hash.Ghosts ℕ} (
               part_of = λ q. part_of q ∙ there.table.part_of q;
             };
             desk = there.desk;
-            tests = there.tests;
+            handed = there.handed;
             stay = stands.1.given;
           };
           begun = record {

@@ -2,20 +2,25 @@
 use Rattle.std.specs.Prelude.{◌≤◌, ℕ, nat_eq, Bool, false, Option, IfSome}
 use Rattle.std.specs.declared.cmp.PartialEq as PartialEq
 use Rattle.std.specs.declared.hash.Hash as Hash
-use Rattle.moka_hist.specs.State.{World}
+use Rattle.moka_hist.specs.State.{Handed, World}
 use Rattle.moka_hist.specs.declared.record_tests.Tests as Tests
+use Rattle.moka_ids.specs.Drawn.{ids_from, seeded}
 use Rattle.moka_table.specs.Map.{most_steps}
 use Rattle.moka_table.specs.declared.table.Table as Table
 use Rattle.moka_layers.specs.Layers.{GroundIs}
 use Rattle.moka_layers.specs.declared.layers.Layers.{Layers}
 use Rattle.moka_walk_cases.specs.declared.no_tests.NoTests.{NoTests}
 
--- no test holds
+-- no test and no predicate holds
 abbrev pub no_test : ℕ → ℕ → ℕ → Bool
 no_test number key value = false
 
 abbrev pub no_tests : Tests.Ghosts NoTests ℕ ℕ
-no_tests = record { answers = λ it. no_test }
+no_tests = record { answers = λ it. no_test; hides = λ it. no_test }
+
+-- what the layers are handed: these, and the ids of seed 0, of which a walk draws none
+abbrev pub no_tests_handed : Handed ℕ ℕ
+no_tests_handed = record { tests = no_test; predicates = no_test; ids = ids_from (seeded 0) }
 
 -- the layers stand for some world
 abbrev pub Stands : {T C : Type 0} {same : PartialEq.Ghosts ℕ} {hash : Hash.Ghosts ℕ} → Table.Ghosts T ℕ ℕ C

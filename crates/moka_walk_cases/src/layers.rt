@@ -8,6 +8,7 @@ use crate::NoTests;
 use crate::accesses::Below;
 use moka_desk::Desk;
 use moka_hist::{Rules, Start};
+use moka_ids::PcgIds;
 use moka_init::Flow;
 use moka_table::Table;
 use std::alloc::{AllocError, Global};
@@ -40,6 +41,7 @@ pub(crate) fn over<C: Drop, T: Table<u32, u32, Call = C> + Drop>(
         call: WALK,
         begun: None,
         tests: NoTests,
+        ids: PcgIds::new(0),
     })
 }
 

@@ -13,7 +13,7 @@ fn is_written(
     replies: &[Reply<u32, u32, u32>],
     want: &str,
 ) -> Result<bool, AllocError> {
-    let text = write_report(alloc, replies, &[], &[], &[])?;
+    let text = write_report(alloc, replies, &[], &[], &[], &[])?;
     Ok(text.as_str() == want)
 }
 
@@ -128,6 +128,21 @@ fn every_form_of_a_walk_is_written(rt: HostRuntime) -> Result<(), Fail> {
 }
 
 #[test]
+fn every_form_of_a_registering_is_written(rt: HostRuntime) -> Result<(), Fail> {
+    let replies = [
+        Reply::Answer(Answer::Id(0x20ae25da_d4e2_4c53_98f9_38e12bbf69fb)),
+        Reply::Answer(Answer::Id(u128::MAX)),
+        Reply::Answer(Answer::ClosuresDisabled),
+        Reply::Answer(Answer::NoId),
+    ];
+    let want = "answer id 20ae25da-d4e2-4c53-98f9-38e12bbf69fb\n\
+        answer id ffffffff-ffff-ffff-ffff-ffffffffffff\n\
+        answer disabled\nanswer noid\n";
+    assert!(rt; is_written(rt.alloc(), &replies, want)?);
+    Ok(())
+}
+
+#[test]
 fn every_form_of_what_was_computed_is_written(rt: HostRuntime) -> Result<(), Fail> {
     let replies = [
         computed(CompResult::Inserted(entry(5))),
@@ -169,11 +184,13 @@ fn what_stands_is_written_after_the_replies(rt: HostRuntime) -> Result<(), Fail>
         &[(7, stored)],
         &places,
         &notices,
+        &[(2, 0), (u64::MAX, 11)],
     )?;
     let want = "wait\nentry 7 8 stamp 9 at 10\n\
         write 1 held\nwrite 2 owed\nwrite 3 logged\nwrite 4 applied\n\
         notice 5 3 9 Replaced waiting\nnotice 6 3 9 Size running\n\
-        notice 7 3 9 Replaced ended\nnotice 18446744073709551615 3 9 Replaced skipped\n";
+        notice 7 3 9 Replaced ended\nnotice 18446744073709551615 3 9 Replaced skipped\n\
+        test 2 at 0\ntest 18446744073709551615 at 11\n";
     assert!(rt; text.as_str() == want);
     Ok(())
 }

@@ -42,6 +42,7 @@ fn visit_name(visit: &Visit<u32, u32, u32>) -> &'static str {
         Visit::ApplyOne { .. } => "apply one",
         Visit::EndTurn { .. } => "end turn",
         Visit::InvalidateAll => "invalidate all",
+        Visit::Register { .. } => "register",
     }
 }
 
@@ -99,6 +100,9 @@ fn answer_name(answer: &Answer<u32, u32, u32>) -> &'static str {
         Answer::Evicted => "evicted",
         Answer::Kept => "kept",
         Answer::End => "end",
+        Answer::Id(_) => "id",
+        Answer::ClosuresDisabled => "disabled",
+        Answer::NoId => "no id",
     }
 }
 

@@ -6,7 +6,7 @@ use moka_init::Flow;
 use std::alloc::AllocError;
 
 /// Flows: what is started, the rules, and the rows.
-const FLOWS: [(&str, &str, &str); 15] = [
+const FLOWS: [(&str, &str, &str); 18] = [
     // A removal that finds nothing posts no write.
     (
         "remove",
@@ -97,6 +97,18 @@ const FLOWS: [(&str, &str, &str); 15] = [
         "invalidate all",
         "disabled",
         "invalidate all / invalidated / done\n",
+    ),
+    // So is one by a predicate.
+    ("invalidate if", "no rule", "register / registered / id\n"),
+    (
+        "invalidate if",
+        "disabled",
+        "register / closures are disabled / disabled\n",
+    ),
+    (
+        "invalidate if",
+        "a listener",
+        "register / every id is registered / no id\n",
     ),
 ];
 

@@ -50,6 +50,7 @@ fn is_found_by(visit: &Visit<u32, u32, u32>, found: &Found<u32, u32>) -> bool
         Visit::ApplyOne { .. } => matches!(found, Found::ApplyOne(_)),
         Visit::EndTurn { .. } => matches!(found, Found::EndTurn),
         Visit::InvalidateAll => matches!(found, Found::InvalidateAll),
+        Visit::Register { .. } => matches!(found, Found::Register(_)),
     }
 }
 

@@ -1,5 +1,5 @@
 -- The lists of the report are those of the last state; where they find no memory all events were done.
-use Rattle.std.proofs.Common.{◌≡◌, List, Option, IfSome, take, length, refl, sym, subst, inr, arith}
+use Rattle.std.proofs.Common.{◌≡◌, List, take, length, refl, sym, subst}
 use Rattle.std.proofs.Math.Seq.{take-length}
 use Rattle.moka_hist.specs.Places.{IsLawful}
 use Rattle.moka_hist.specs.Run.{Run}
@@ -23,7 +23,7 @@ returns-in-Ok-clause-run g c = λ s h reached.
       stands = a.stands;
     } in
     subst (λ (r : Report g.row.K.Denot g.row.V.Denot g.row.E.Denot).
-    (b : Answers g.K.PartialEq.eq g.T.Tests c.args.events.now r.replies c.run_events.new.cache s) × Reports g.K.PartialEq.eq r.entries r.places r.notices b.final)
+    (b : Answers g.K.PartialEq.eq g.T.Tests c.args.events.now r.replies c.run_events.new.cache s) × Reports g.K.PartialEq.eq r.entries r.places r.notices r.tests b.final)
     (sym c.report_of.ensures) (answers, c.in-Ok.ensures a.final a.stands)
 
 pub returns-in-Err-clause-memory : goal.returns-in-Err-clause-memory

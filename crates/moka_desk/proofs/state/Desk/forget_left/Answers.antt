@@ -13,6 +13,7 @@ returns-clause-makes g c = λ w h.
       rules = h.rules;
       clock = h.clock;
       valid_after = h.valid_after;
+      predicates = h.predicates;
       accessed = λ keeps n.
           c.forget_listed.ensures n
           ∙ ap (λ b. cond (not b && (list_any (names n) s.writes.applied.writes.items && not (is_kept s.writes n))) None (get nat_eq s.accessed n)) (sym c.if-self.false)

@@ -20,6 +20,7 @@ returns-in-Some-clause-makes g c = λ w h may.
       rules = h.rules;
       clock = h.clock;
       valid_after = h.valid_after;
+      predicates = h.predicates;
       accessed = h.accessed;
       turn = h.turn;
       published = h.published;

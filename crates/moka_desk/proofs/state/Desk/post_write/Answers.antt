@@ -16,6 +16,7 @@ returns-clause-makes g c = λ w h may. record {
   rules = h.rules;
   clock = h.clock;
   valid_after = h.valid_after;
+  predicates = h.predicates;
   accessed = h.accessed;
   turn = h.turn;
   published = h.published;

@@ -1,8 +1,9 @@
 -- A fresh get is safe on a fresh cache, and the poll notes each access.
-use Rattle.std.proofs.Common.{ℕ, false, Some, map, refl, subst, arith}
+use Rattle.std.proofs.Common.{ℕ, Some, map, refl, subst, arith}
 use Rattle.moka_hist.specs.State.{Call, World, fresh}
 use Rattle.moka_hist.specs.Run.{fresh_call}
 use Rattle.moka_hist.specs.declared.events.Start.TheVariants as start
+use Rattle.moka_desk_cases.specs.Rests.{none_handed}
 use Rattle.moka_desk_cases.specs.EmptyCache.{IsBare, noted}
 use Rattle.moka_init.specs.FlowPlan.{call_of, next_in}
 use Rattle.moka_init.specs.Telling.{TellsPoll}
@@ -11,7 +12,7 @@ use Rattle.moka_desk_cases.proofs.flows.bare.poll_get.Goals as goal
 
 pub poll-polled-requires-clause-safe : goal.poll-polled-requires-clause-safe
 poll-polled-requires-clause-safe g c =
-    let w : World g.row.K.Denot g.row.V.Denot g.row.E.Denot = (fresh g.row.K.Denot g.row.V.Denot g.row.E.Denot (record { parts = 1; part_of = λ q. 0 }) no_rules 1 (λ test key value. false)).world in
+    let w : World g.row.K.Denot g.row.V.Denot g.row.E.Denot = (fresh g.row.K.Denot g.row.V.Denot g.row.E.Denot (record { parts = 1; part_of = λ q. 0 }) no_rules 1 none_handed).world in
     let bare : IsBare c.args.ground.now.undecided w =
     record { owed = refl; holding = λ n. refl; log = refl; size = refl; joined = λ n. refl; stored = λ q. refl; patient = omega (arith, c.args.ground.now.few) } in
     (w, bare, get_is_safe g.K.PartialEq.eq c.args.ground.now.undecided c.new-flow.result.call 1 c.args.key no_rules (call_of c.new-flow.result) w c.new-flow.ensures.call refl bare, omega arith)

@@ -14,6 +14,7 @@ returns-clause-kept g c =
           rules = desk.rules;
           clock = desk.clock;
           valid_after = desk.valid_after;
+          predicates = desk.predicates;
           accessed = desk.accessed;
           turn = desk.turn;
           published = desk.published;
@@ -24,7 +25,7 @@ returns-clause-kept g c =
           notices = desk.notices;
           asks = desk.asks;
         };
-        tests = refl;
+        handed = record { tests = refl; predicates = kept.stands.handed.predicates; ids = kept.stands.handed.ids };
         stay = kept.stands.stay;
       };
       sound = record {

@@ -1,9 +1,11 @@
 -- A desk where nothing has happened but that numbers were given out, and an empty table, are those
 -- of a sound world.
-use Rattle.std.proofs.Common.{false, refl, sym, subst, arith}
+use Rattle.std.proofs.Common.{refl, sym, subst, arith}
 use Rattle.moka_hist.specs.State.{empty_table, fresh_desk}
 use Rattle.moka_table.specs.Plain.{plain_part, plain_parts}
-use Rattle.moka_kept.specs.Kept.{IsKept}
+use Rattle.moka_ids.specs.Drawn.{seeded}
+use Rattle.moka_layers.proofs.Undrawn.{undrawn}
+use Rattle.moka_kept.specs.Kept.{IsKept, none_handed}
 use Rattle.moka_kept.proofs.ground.Reach.starting_after.Goals as goal
 
 pub returns : goal.returns
@@ -13,16 +15,20 @@ returns g c =
     subst (λ layers. IsKept g.K.PartialEq.eq layers) (sym c.over.ensures.layers) (record {
       world = record {
         table = empty_table g.row.K.Denot g.row.V.Denot (record { parts = plain_parts; part_of = plain_part });
-        desk = record (fresh_desk g.row.K.Denot g.row.V.Denot g.row.E.Denot c.args.rules 384 (λ test key value. false)) { last = c.args.last };
+        desk = record (fresh_desk g.row.K.Denot g.row.V.Denot g.row.E.Denot c.args.rules 384 none_handed) { last = c.args.last };
         stay = record { call = 0; times = 0 };
       };
       stands = record {
         table = record { map = empty.map; keys = empty.count; peak = omega (arith, none); first = empty.first; parts = refl; part_of = λ q. refl };
-        desk = c.in_ok-desk.ensures.stands (λ test key value. false);
-        tests = refl;
+        desk = c.in_ok-desk.ensures.stands none_handed;
+        handed = record {
+          tests = refl;
+          predicates = refl;
+          ids = undrawn (seeded 0) c.new-2.result c.new-2.ensures;
+        };
         stay = omega arith;
       };
-      sound = c.entering_keeps_sound.ensures.sound _ c.args.last (c.fresh_is_sound.ensures.sound c.args.rules 384 (λ test key value. false));
+      sound = c.entering_keeps_sound.ensures.sound _ c.args.last (c.fresh_is_sound.ensures.sound c.args.rules 384 none_handed);
       log = omega arith;
       decided = refl;
       none_begun = refl;

@@ -71,7 +71,7 @@ returns-clause-judged g c = λ value is.
     (reached_by g.K.PartialEq.eq c.args.self.now.layers c.number-self.result kept (subst (λ n. n ≤ kept.world.desk.last) (sym c.number-self.ensures) may.0))
     (c.requires.ends kept.world.desk kept.stands.desk) (may_of kept.world (access_at c.args.flow.now) may.1.holds)
     (λ given after gets. took_tested g.K.PartialEq.eq flow.call kept.world hand.replaced value (access_at flow) given after
-    (λ test key v. sym (ap (λ answers. answers test key v) kept.stands.tests)) (tested_at flow.call (call_of flow) ∙ is) gets) moves)
+    (λ test key v. sym (ap (λ answers. answers test key v) kept.stands.handed.tests)) (tested_at flow.call (call_of flow) ∙ is) gets) moves)
     c.step.ensures.moves
 
 pub returns-clause-begun : goal.returns-clause-begun

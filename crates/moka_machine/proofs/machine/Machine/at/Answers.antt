@@ -14,7 +14,7 @@ returns-then-at g c = λ s h reached.
       record {
         world = record {
           table = h.world.table;
-          tests = h.world.tests;
+          handed = h.world.handed;
           stay = h.world.stay;
           desk = subst (λ (b : Bool). desk.StandsFor g.K.PartialEq.eq c.at.new.self (cond b w (record w { clock = c.args.moment }))) e (c.at.ensures.makes w h.world.desk);
         };

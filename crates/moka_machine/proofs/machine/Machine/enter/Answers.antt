@@ -51,7 +51,7 @@ returns-in-Some-clause-serves g c = λ s h reached.
       match_false _ _ _ next.0 (record { reply = ap reply.Call next.1; after = refl }),
       subst (λ (m : ℕ). MachineIs eq g.T.Tests (record { layers = record c.args.self.now.layers { desk = c.enter.new.self }; calls = c.add.new.self }) (numbered m)) next.1
           (record {
-            world = record { table = h.world.table; desk = c.in-Some.ensures.makes w h.world.desk; tests = h.world.tests; stay = omega (arith, called, before) };
+            world = record { table = h.world.table; desk = c.in-Some.ensures.makes w h.world.desk; handed = h.world.handed; stay = omega (arith, called, before) };
             calls = set_calls (running_at c.args.self.now.calls) (running_at c.add.new.self) s.calls n (Some runs) (Some (fresh_call parts w.rules c.args.start))
                 (ap Some (ap call_of same ∙ c.new-flow.ensures.call ∙ ap (λ p. fresh_call p c.rules-rules.result c.args.start) divided ∙ ap (λ r. fresh_call parts r c.args.start) ruled)) puts (λ k ne. h.calls k);
             each = set_each (IsOf eq c.args.self.now.layers.table s.world.table s.world.stay n) (running_at c.args.self.now.calls) (running_at c.add.new.self) n (Some runs)

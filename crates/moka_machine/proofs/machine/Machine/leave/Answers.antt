@@ -30,7 +30,7 @@ returns-clause-leaves g c = λ s t all.
             table = layers.world.table;
             desk = subst (λ (o : Option Owed). desk.StandsFor g.K.PartialEq.eq c.leave.new.self (left s.world.desk c.args.call o))
                 (owed_here c.args.call c.args.flow.value.call d c.held-held.result number held) stands;
-            tests = layers.world.tests;
+            handed = layers.world.handed;
             stay = layers.world.stay;
           };
           begun = layers.begun;

@@ -29,7 +29,7 @@ returns-in-Some-clause-some g c = λ s h.
         rest = record {
           reaches = record {
             layers = record {
-              world = record { table = h.world.table; desk = h.world.desk; tests = h.world.tests; stay = h.world.stay };
+              world = record { table = h.world.table; desk = h.world.desk; handed = h.world.handed; stay = h.world.stay };
               begun = is.begun;
               given = is.given;
             };

@@ -1,0 +1,63 @@
+-- What the registered predicates stand for, and what a predicate's registration comes to.
+use Rattle.std.specs.Prelude.{◌≡◌, ◌≤◌, ◌<◌, ◌+◌, ℕ, Bool, List, [], ◌∷◌, ◌++◌, Result, Ok, Err, vec_len, vec_capacity, nat_eq, nat_le, ◌&&◌}
+use Rattle.std.specs.List.{AllByRecursion}
+use Rattle.std.specs.HashSet.{contains, spare}
+use Rattle.moka_hist.specs.State.{DeskPart}
+use Rattle.moka_hist.specs.Visits.{is_registered}
+use Rattle.moka_hist.specs.declared.predicates.PredicateError.{PredicateError}
+use Rattle.moka_hist.specs.declared.predicates.PredicateError.TheVariants as refused
+use Rattle.moka_hist.specs.declared.predicates.Registered.{Registered}
+use Rattle.moka_desk.specs.declared.predicates.Predicates.{Predicates}
+
+-- What the desk's part says of them.
+pub record PredicatePart : Type 0 where
+  pub clock : ℕ
+  pub registered : List Registered
+
+-- that part of it
+abbrev pub predicate_part : {K V E : Type 0} → DeskPart K V E → PredicatePart
+predicate_part w = record { clock = w.clock; registered = w.registered }
+
+-- none is of an earlier moment than one before it, and none of a later one than this
+abbrev pub AreTimely : ℕ → List Registered → Type 0
+AreTimely clock [] = Unit {0}
+AreTimely clock (r ∷ rest) =
+    (r.moment ≤ clock) × AllByRecursion (λ later. r.moment ≤ later.moment) rest × AreTimely clock rest
+
+-- The list is the one that is kept, with its ids, and it is in the order of moments.
+pub record PredicatesAre (kept : Predicates) (p : PredicatePart) : Type 0 where
+  pub registered : kept.registered.items ≡ p.registered
+  pub ids : (id : ℕ) → contains nat_eq kept.ids id ≡ is_registered p.registered id
+  pub timely : AreTimely p.clock p.registered
+
+-- there is room for one more, and its id
+pub record HasPlace (kept : Predicates) : Type 0 where
+  pub registered : vec_len kept.registered < vec_capacity kept.registered
+  pub ids : 0 < spare kept.ids
+
+-- the part, where this one was registered at its clock's moment
+abbrev pub with_registered : PredicatePart → Registered → PredicatePart
+with_registered p one = record p { registered = p.registered ++ one ∷ [] }
+
+-- the predicate, by what each number answers, hits a record of this key and value, last written at
+-- the moment
+abbrev pub hit_by : {K V : Type 0} → (ℕ → K → V → Bool) → K → V → ℕ → Registered → Bool
+hit_by answers key value modified r = nat_le modified r.moment && answers r.test key value
+
+-- the ids that this stream still gives are those that the state is to draw
+abbrev pub Draws : {K V E : Type 0} → (ℕ → ℕ) → DeskPart K V E → Type 0
+Draws stream w = (n : ℕ) → stream n ≡ w.ids (w.drawn + n)
+
+-- this holds, unless memory was wanting to register a predicate
+abbrev pub UnlessMemory : Result ℕ PredicateError → Type 0 → Type 0
+UnlessMemory (Err refused.Memory) Holds = Unit {0}
+UnlessMemory (Err refused.NoId) Holds = Holds
+UnlessMemory (Err refused.InvalidationClosuresDisabled) Holds = Holds
+UnlessMemory (Ok id) Holds = Holds
+
+-- this holds, where memory was wanting to register one
+abbrev pub OnMemory : Result ℕ PredicateError → Type 0 → Type 0
+OnMemory (Err refused.Memory) Holds = Holds
+OnMemory (Err refused.NoId) Holds = Unit {0}
+OnMemory (Err refused.InvalidationClosuresDisabled) Holds = Unit {0}
+OnMemory (Ok id) Holds = Unit {0}
