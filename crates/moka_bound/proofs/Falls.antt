@@ -1,13 +1,13 @@
 -- Each step that leaves a call going lowers how many it may still make.
-use Rattle.std.proofs.Common.{◌≡◌, ◌≢◌, ℕ, suc, ◌+◌, ◌*◌, ◌<◌, ◌≤◌, ◌==◌, nat_lt, not, Bool, true, false, cond, List, [], ◌∷◌, ◌++◌, length, map, drop, Option, Some, None, is_some, unwrap_or, refl, sym, ap, ◌∙◌, subst, arith}
+use Rattle.std.proofs.Common.{◌≡◌, ◌≢◌, ℕ, zero, suc, ◌+◌, ◌*◌, ◌<◌, ◌≤◌, ◌==◌, nat_lt, not, Bool, true, false, cond, List, [], ◌∷◌, ◌++◌, length, map, drop, Option, Some, None, is_some, unwrap_or, refl, sym, ap, ◌∙◌, subst, arith}
 use Rattle.std.proofs.lemmas.List.{length-append}
 use Rattle.std.proofs.lemmas.Bool.{eq-eqb}
 use Rattle.std.proofs.lemmas.Bool.Decides.{nat_tests}
 use Rattle.moka_hist.specs.State.{Call, DeskPart, World}
-use Rattle.moka_hist.specs.Plan.{Item, Aim, Change, Removal, look, loaded, load_rest, end_load, put, take_out, under_lock, is_disabled, walks}
+use Rattle.moka_hist.specs.Plan.{Item, Aim, Change, Removal, look, loaded, load_rest, end_load, put, take_out, under_lock, is_disabled, lists_from, walks}
 use Rattle.moka_hist.specs.Plan as plan
 use Rattle.moka_hist.specs.Next.{Next, goes, stays, waits, gives, asks, answers}
-use Rattle.moka_hist.specs.Visits.{claimed, claimed_alone, unlocked, is_running, is_unlocked_for, locked_by, settlement_for, is_free_for, finds, claim_of, has_room, is_seen, registering}
+use Rattle.moka_hist.specs.Visits.{claimed, claimed_alone, unlocked, is_running, is_unlocked_for, locked_by, settlement_for, is_free_for, finds, claim_of, has_room, is_seen, registering, candidates, struck}
 use Rattle.moka_hist.specs.Posting.{once_ended, after_drain, after_post, after_turn, after_apply}
 use Rattle.moka_hist.specs.Looking.{hits, misses, keeps, kept_rest, chosen_or_not, finds_pair, after_get, after_judge, after_holds}
 use Rattle.moka_hist.specs.Loading.{retries, owner_rest, after_own, after_read, after_told}
@@ -17,8 +17,9 @@ use Rattle.moka_hist.specs.Conditions.{HasUnsettled}
 use Rattle.moka_hist.specs.Computing.{compute_rest, report_rest, end_compute, put_told, after_own_key, after_own_alone, after_read_key, after_told_op}
 use Rattle.moka_hist.specs.Listening.{after_lock, after_hearing, after_notice}
 use Rattle.moka_hist.specs.Invalidating.{registering_answer}
-use Rattle.moka_hist.specs.Walking.{after_list, after_find, after_scan}
-use Rattle.moka_hist.specs.Step.{Gets, May, access_of, access_for, replace_of, next_of, after_table, after_visit, going_as}
+use Rattle.moka_hist.specs.Maintenance.{after_candidates, carrying}
+use Rattle.moka_hist.specs.Walking.{after_list, after_find, after_scan, judging}
+use Rattle.moka_hist.specs.Step.{Access, Gets, May, access_of, access_for, replace_of, next_of, after_table, after_visit, going_as}
 use Rattle.moka_hist.specs.declared.records.Mode.{Mode}
 use Rattle.moka_hist.specs.declared.records.Stored.{Stored}
 use Rattle.moka_hist.specs.declared.rules.Cause.{Cause}
@@ -573,9 +574,15 @@ module _ {K V E : Type 0} where
     find_falls key rest table_answer.None s =
         let h = eased old new c.aborts false rest s.eases (post_worst (room_in new)) in
         falls_goes new _ c rest (omega (arith, h, s.logged))
-    find_falls key rest (table_answer.Some there stored) s =
-        let h = more rest new.owed old.owed new.most old.most c.aborts new.most old.most false false true true s.eases.owed s.eases.most s.eases.most (post_worst false) (ended_worst true) in
-        falls_goes new _ c (plan.Scan there stored ∷ rest) (omega (arith, h, s.logged))
+    find_falls key rest (table_answer.Some there stored) s = by c.carried
+      where
+        by : (ids : Option (List (ℕ × ℕ))) → Falls new (bound_of old new c young (plan.Find key ∷ rest)) (goes c (judging ids there stored ∷ rest))
+        by None =
+            let h = more rest new.owed old.owed new.most old.most c.aborts new.most old.most false false true true s.eases.owed s.eases.most s.eases.most (post_worst false) (ended_worst true) in
+            falls_goes new _ c (plan.Scan there stored ∷ rest) (omega (arith, h, s.logged))
+        by (Some ids) =
+            let h = more rest new.owed old.owed new.most old.most c.aborts new.most old.most false false true true s.eases.owed s.eases.most s.eases.most (post_worst false) (ended_worst true) in
+            falls_goes new _ c (plan.Strike there stored ∷ rest) (omega (arith, h, s.logged))
     find_falls key rest (table_answer.Keys keys) s = never new _ (waits c) (λ e. cc)
 
     scan_falls : (there : K) (stored : Stored V) (rest : List (Item K V E)) (seen : Bool) → Same old new →
@@ -583,8 +590,22 @@ module _ {K V E : Type 0} where
     scan_falls there stored rest true s = never new _ (gives c there stored.value rest) (λ e. cc)
     scan_falls there stored rest false s = passes old new c young rest s
 
-    on_item : (item : Item K V E) (rest : List (Item K V E)) (given : Got K V E) → c.plan ≡ item ∷ rest → May w (access_for n item) → Gets eq n w (access_for n item) given next →
-        Shortens old new (access_for n item) given → lists item given ≡ false → Falls new (bound_of old new c young (item ∷ rest)) (after item rest given)
+    -- the predicates were chosen that may leave: all parts are to be listed, where there are some
+    lists_fall : (part parts owed most left aborts : ℕ) (room ended : Bool) → left ≤ most →
+        steps_of {K = K} {V = V} {E = E} owed most aborts room left ended (lists_from part parts (plan.Retire ∷ [])) ≤ (most + 1) * parts + 1
+    lists_fall part zero owed most left aborts room ended h = omega arith
+    lists_fall part (suc parts) owed most left aborts room ended h =
+        let f = lists_fall (part + 1) parts owed most most aborts false true (omega arith) in omega (arith, f, h)
+
+    chooses : (parts : ℕ) (rest : List (Item K V E)) (ids : List (ℕ × ℕ)) → Same old new →
+        Falls new (bound_of old new c young (plan.Candidates parts ∷ rest)) (after_candidates c parts (found.Candidates ids))
+    chooses parts rest [] s = never new _ (answers answer.Done) (λ e. cc)
+    chooses parts rest (id ∷ more) s =
+        same_falls old new _ (carrying c (id ∷ more)) (lists_from 0 parts (plan.Retire ∷ [])) s
+        (let f = lists_fall 0 parts old.owed old.most old.most c.aborts (room_in old) true (omega arith) in omega (arith, f))
+
+    on_item : (item : Item K V E) (rest : List (Item K V E)) (given : Got K V E) → c.plan ≡ item ∷ rest → May w (access_for n c.carried item) →
+        Gets eq n w (access_for n c.carried item) given next → Shortens old new (access_for n c.carried item) given → lists item given ≡ false → Falls new (bound_of old new c young (item ∷ rest)) (after item rest given)
     on_item plan.Drain rest (got.Desk f) e m g h silent = rw g.0
         (drain_falls rest w.desk.owed refl (ap (λ v. length v.desk.owed) g.1) (ap (λ v. v.desk.log) g.1) (ap (λ v. v.desk.size) g.1) h.within (omega (arith, h.raises)))
     on_item (plan.Post x) rest (got.Desk f) e m g h silent = rw g.0
@@ -641,6 +662,12 @@ module _ {K V E : Type 0} where
     on_item plan.Invalidate_all rest (got.Desk f) e m g h silent = rw g.0
         (passes old new c young rest (leaves _ (ap (λ v. v.desk) g.1) (record { owed = refl; log = refl; size = refl }) h.within h.raises))
     on_item (plan.Register test) rest (got.Desk f) e m g h silent = rw g.0 (never new _ (answers (registering_answer (registering w.desk))) (λ d. cc))
+    on_item (plan.Candidates parts) rest (got.Desk f) e m g h silent = rw g.0
+        (chooses parts rest (candidates w.desk) (leaves w.desk (ap (λ v. v.desk) g.1) (same_lists w.desk) h.within h.raises))
+    on_item (plan.Strike there stored) rest (got.Desk f) e m g h silent = rw g.0
+        (passes old new (carrying c (struck w.desk (unwrap_or c.carried []) there stored)) young rest
+        (leaves w.desk (ap (λ v. v.desk) g.1) (same_lists w.desk) h.within h.raises))
+    on_item plan.Retire rest (got.Desk f) e m g h silent = rw g.0 (never new _ (answers answer.Done) (λ d. cc))
     on_item (plan.Holds key stamp cause there stored) rest (got.Desk f) e m g h silent = rw g.0
         (holds_falls old new c young key stamp cause _ (leaves w.desk (ap (λ v. v.desk) g.1) (same_lists w.desk) h.within h.raises))
     on_item (plan.Notice key stored cause upsert) rest (got.Desk f) e m g h silent = rw g.0
@@ -687,28 +714,41 @@ module _ {K V E : Type 0} where
       let m = found_falls keys rest owed most aborts most false true (omega arith) in omega (arith, m, h)
 
   -- a step of a walk lets no later operation need more
-  raises_nothing : (n : ℕ) (item : Item K V E) (rest : List (Item K V E)) (given : Got K V E) → walks (item ∷ rest) ≡ true → raised (access_for n item) given ≡ 0
-  raises_nothing n (plan.List_keys part) rest given e = refl
-  raises_nothing n (plan.Find key) rest given e = refl
-  raises_nothing n (plan.Scan there stored) rest given e = refl
-  raises_nothing n _ rest given e = absurd cc
+  raises_nothing : (n : ℕ) (ids : Option (List (ℕ × ℕ))) (item : Item K V E) (rest : List (Item K V E)) (given : Got K V E) → walks (item ∷ rest) ≡ true →
+      raised (access_for n ids item) given ≡ 0
+  raises_nothing n ids (plan.Get aim key) rest given e = absurd cc
+  raises_nothing n ids (plan.Write key value moment) rest given e = absurd cc
+  raises_nothing n ids (plan.Out removal key) rest given e = absurd cc
+  raises_nothing n ids _ rest given e = refl
 
   -- what is yet to be listed takes no more steps than before
-  keys_ease : (n : ℕ) (item : Item K V E) (rest : List (Item K V E)) (given : Got K V E) (old new : Work) →
-      (walks (item ∷ rest) ≡ false → old.keys ≡ 0) → Shortens old new (access_for n item) given →
+  keys_ease : (access : Access K V E) (given : Got K V E) (old new : Work) → (0 < raised access given → old.keys ≡ 0) → Shortens old new access given →
       new.keys * (new.most + 2) ≤ old.keys * (old.most + 2)
-  keys_ease n item rest given old new none h = by (walks (item ∷ rest)) refl
+  keys_ease access given old new none h = by (raised access given) refl
     where
-      by : (b : Bool) → walks (item ∷ rest) ≡ b → new.keys * (new.most + 2) ≤ old.keys * (old.most + 2)
-      by true e =
-          let raises : new.most ≤ old.most + raised (access_for n item) given = h.raises in
-          let flat : raised (access_for n item) given ≡ 0 = raises_nothing n item rest given e in
+      by : (r : ℕ) → raised access given ≡ r → new.keys * (new.most + 2) ≤ old.keys * (old.most + 2)
+      by zero flat =
+          let raises : new.most ≤ old.most + raised access given = h.raises in
           let less : new.keys + keys_in given ≤ old.keys = h.keys in
-          product_more new.keys old.keys new.most old.most (omega arith) (omega arith)
-      by false e =
+          product_more new.keys old.keys new.most old.most (omega (arith, less)) (omega (arith, raises, flat))
+      by (suc r) more =
           let less : new.keys + keys_in given ≤ old.keys = h.keys in
-          let flat : old.keys ≡ 0 = none e in
-          product_none new.keys (new.most + 2) (old.keys * (old.most + 2)) (omega arith)
+          let flat : old.keys ≡ 0 = none (omega (arith, more)) in
+          product_none new.keys (new.most + 2) (old.keys * (old.most + 2)) (omega (arith, less, flat))
+
+  -- a walk has no access that may add a key
+  pub walks_add_none : (n : ℕ) (c : Call K V E) (given : Got K V E) (keys : ℕ) → (walks c.plan ≡ false → keys ≡ 0) → 0 < raised (access_of n c) given → keys ≡ 0
+  walks_add_none n c given keys none adds = by_call c.plan refl none adds
+    where
+      by_item : (item : Item K V E) (rest : List (Item K V E)) (b : Bool) → walks (item ∷ rest) ≡ b → (walks (item ∷ rest) ≡ false → keys ≡ 0) →
+          0 < raised (access_for n c.carried item) given → keys ≡ 0
+      by_item item rest false e calm more = calm e
+      by_item item rest true e calm more =
+          let flat : raised (access_for n c.carried item) given ≡ 0 = raises_nothing n c.carried item rest given e in absurd (omega (arith, more, flat))
+
+      by_call : (p : List (Item K V E)) → c.plan ≡ p → (walks p ≡ false → keys ≡ 0) → 0 < raised (access_of n (record c { plan = p })) given → keys ≡ 0
+      by_call [] e calm more = calm refl
+      by_call (item ∷ rest) e calm more = by_item item rest (walks (item ∷ rest)) refl calm more
 
   -- the call, if it goes on, has fewer steps ahead than so many, those for keys that are yet to be
   -- listed among them
@@ -734,23 +774,23 @@ module _ {K V E : Type 0} where
       let h : ahead_of_plan new f.0 < old.logged + (1 + (length keys * (new.most + 2) + steps_of old.owed old.most c.aborts false old.most true rest)) = f.2 in
       (f.0, f.1, omega (arith, h, listed_less new.keys (length keys) old.keys old.most new.most less s.eases.most))
 
-  by_plan : (eq : K → K → Bool) (n : ℕ) (rules : Rules) (how : Mode) (p : List (Item K V E)) (aborts : ℕ) (w next : World K V E) (given : Got K V E) (old new : Work) →
-      let c : Call K V E = record { rules = rules; mode = how; plan = p; aborts = aborts } in
-      aborts < retries → 0 < old.size → (walks p ≡ false → old.keys ≡ 0) → May w (access_of n c) → Gets eq n w (access_of n c) given next →
+  by_plan : (eq : K → K → Bool) (n : ℕ) (rules : Rules) (how : Mode) (p : List (Item K V E)) (aborts : ℕ) (ids : Option (List (ℕ × ℕ))) (w next : World K V E) (given : Got K V E) (old new : Work) →
+      let c : Call K V E = record { rules = rules; mode = how; plan = p; aborts = aborts; carried = ids } in
+      aborts < retries → 0 < old.size → (0 < raised (access_of n c) given → old.keys ≡ 0) → May w (access_of n c) → Gets eq n w (access_of n c) given next →
       Counts n w old → Counts n next new → Shortens old new (access_of n c) given → FallsIn new (ahead old c) (next_of n c given)
-  by_plan eq n rules how [] aborts w next given old new young has_log none m g was is h = λ e. absurd cc
-  by_plan eq n rules how (plan.List_keys part ∷ rest) aborts w next (got.Table (table.Decided (table_answer.Keys keys))) old new young has_log none m g was is h =
-      let c : Call K V E = record { rules = rules; mode = how; plan = plan.List_keys part ∷ rest; aborts = aborts } in
+  by_plan eq n rules how [] aborts ids w next given old new young has_log none m g was is h = λ e. absurd cc
+  by_plan eq n rules how (plan.List_keys part ∷ rest) aborts ids w next (got.Table (table.Decided (table_answer.Keys keys))) old new young has_log none m g was is h =
+      let c : Call K V E = record { rules = rules; mode = how; plan = plan.List_keys part ∷ rest; aborts = aborts; carried = ids } in
       list_falls c old new keys rest (leaves eq n c w next old new young has_log was is w.desk (ap (λ v. v.desk) g.2) (same_lists w.desk) h.within h.raises) h.keys
-  by_plan eq n rules how (item ∷ rest) aborts w next (got.Table t) old new young has_log none m g was is h =
-      let c : Call K V E = record { rules = rules; mode = how; plan = item ∷ rest; aborts = aborts } in
-      with_keys old new _ _ (keys_ease n item rest (got.Table t) old new none h)
+  by_plan eq n rules how (item ∷ rest) aborts ids w next (got.Table t) old new young has_log none m g was is h =
+      let c : Call K V E = record { rules = rules; mode = how; plan = item ∷ rest; aborts = aborts; carried = ids } in
+      with_keys old new _ _ (keys_ease (access_for n ids item) (got.Table t) old new none h)
       (on_item eq n c w next old new young has_log was is item rest (got.Table t) refl m g h refl)
-  by_plan eq n rules how (item ∷ rest) aborts w next (got.Desk f) old new young has_log none m g was is h =
-      let c : Call K V E = record { rules = rules; mode = how; plan = item ∷ rest; aborts = aborts } in
-      with_keys old new _ _ (keys_ease n item rest (got.Desk f) old new none h)
+  by_plan eq n rules how (item ∷ rest) aborts ids w next (got.Desk f) old new young has_log none m g was is h =
+      let c : Call K V E = record { rules = rules; mode = how; plan = item ∷ rest; aborts = aborts; carried = ids } in
+      with_keys old new _ _ (keys_ease (access_for n ids item) (got.Desk f) old new none h)
       (on_item eq n c w next old new young has_log was is item rest (got.Desk f) refl m g h (desk_lists_none item f))
 
   pub going_falls : (eq : K → K → Bool) → GoingFalls K V E eq
   going_falls eq n c w next given old new young has_log none m g was is h going =
-      by_plan eq n c.rules c.mode c.plan c.aborts w next given old new young has_log none m g was is h going
+      by_plan eq n c.rules c.mode c.plan c.aborts c.carried w next given old new young has_log none m g was is h going

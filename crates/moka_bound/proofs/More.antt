@@ -1,8 +1,9 @@
 -- A plan takes no fewer steps where more is owed, where operations may stay undecided for longer, or where the log is full.
-use Rattle.std.proofs.Common.{ℕ, ◌+◌, ◌≤◌, Bool, true, false, cond, List, [], ◌∷◌, arith}
+use Rattle.std.proofs.Common.{ℕ, ◌+◌, ◌*◌, ◌≤◌, Bool, true, false, cond, List, [], ◌∷◌, arith}
+use Rattle.std.proofs.Math.Nat.{mul-le-mul_right}
 use Rattle.moka_hist.specs.Plan.{Item, Aim}
 use Rattle.moka_hist.specs.Plan as plan
-use Rattle.moka_bound.specs.Ahead.{growth, post_steps, judge_steps, read_key_steps, steps_of}
+use Rattle.moka_bound.specs.Ahead.{growth, post_steps, judge_steps, read_key_steps, retire_steps, steps_of}
 
 -- a full log costs most
 pub post_worst : (room : Bool) → post_steps room ≤ post_steps false
@@ -29,6 +30,10 @@ read_key_more o o' m m' true true ho hm he = omega (arith, ho, hm)
 read_key_more o o' m m' true false ho hm he = absurd (omega (arith, he))
 read_key_more o o' m m' false true ho hm he = omega arith
 read_key_more o o' m m' false false ho hm he = omega arith
+
+retire_more : (parts m m' : ℕ) → m ≤ m' → retire_steps m parts ≤ retire_steps m' parts
+retire_more parts m m' h =
+    let p : (m + 1) * parts ≤ (m' + 1) * parts = mul-le-mul_right parts (omega (arith, h)) in omega (arith, p)
 
 same_room : (room : Bool) → post_steps room ≤ post_steps room
 same_room room = omega arith
@@ -72,6 +77,8 @@ module _ {K V E : Type 0} where
       let h = more rest o o' m m' aborts m m' false false true true ho hm hm (same_room false) (same_end true) in omega (arith, h, hl)
   more (plan.Find key ∷ rest) o o' m m' aborts l l' r r' e e' ho hm hl hr he =
       let h = more rest o o' m m' aborts m m' false false true true ho hm hm (same_room false) (same_end true) in omega (arith, h, hl)
+  more (plan.Candidates parts ∷ rest) o o' m m' aborts l l' r r' e e' ho hm hl hr he = retire_more parts m m' hm
+  more (plan.Retire ∷ rest) o o' m m' aborts l l' r r' e e' ho hm hl hr he = omega arith
   more (plan.Reply answer ∷ rest) o o' m m' aborts l l' r r' e e' ho hm hl hr he = omega arith
   more (_ ∷ rest) o o' m m' aborts l l' r r' e e' ho hm hl hr he =
       let h = more rest o o' m m' aborts m m' false false true true ho hm hm (same_room false) (same_end true) in omega (arith, h)

@@ -67,6 +67,10 @@ own_key_steps owed most = drain_steps owed + (most + 4)
 abbrev pub read_key_steps : Bool → ℕ → ℕ → ℕ
 read_key_steps ended owed most = cond ended (own_key_steps owed most + 1) 1
 
+-- to choose the predicates that may leave, to list each part, and to let predicates go
+abbrev pub retire_steps : ℕ → ℕ → ℕ
+retire_steps most parts = 2 + (most + 1) * parts
+
 module _ {K V : Type 0} where
   -- to judge the record that was found, and to go on whether or not it is seen
   abbrev pub judge_steps : ℕ → ℕ → ℕ → Aim K V → ℕ
@@ -141,6 +145,10 @@ module _ {K V E : Type 0} where
       left + 2 + steps_of owed most aborts false most true rest
   steps_of owed most aborts room left ended (plan.Scan there found ∷ rest) =
       1 + steps_of owed most aborts false most true rest
+  steps_of owed most aborts room left ended (plan.Candidates parts ∷ rest) = retire_steps most parts
+  steps_of owed most aborts room left ended (plan.Strike there found ∷ rest) =
+      1 + steps_of owed most aborts false most true rest
+  steps_of owed most aborts room left ended (plan.Retire ∷ rest) = 1
   steps_of owed most aborts room left ended (plan.Reply answer ∷ rest) = 1
 
   -- at most so many steps the call makes by itself, but for keys that are yet to be listed

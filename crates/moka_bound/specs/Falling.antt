@@ -1,8 +1,7 @@
 -- Each step that leaves a call going lowers how many it may still make.
-use Rattle.std.specs.Prelude.{◌≡◌, ℕ, ◌+◌, ◌<◌, ◌≤◌, Bool, false, length, is_some}
+use Rattle.std.specs.Prelude.{◌≡◌, ℕ, ◌+◌, ◌<◌, ◌≤◌, Bool, length, is_some}
 use Rattle.moka_hist.specs.State.{Call, World}
 use Rattle.moka_hist.specs.Loading.{retries}
-use Rattle.moka_hist.specs.Plan.{walks}
 use Rattle.moka_hist.specs.Step.{Access, Gets, May, access_of, next_of, going_as}
 use Rattle.moka_hist.specs.Visits.{settlement_for}
 use Rattle.moka_hist.specs.Step as step
@@ -44,12 +43,13 @@ module _ {K V E : Type 0} where
     pub keys : new.keys + keys_in given ≤ old.keys
 
 -- A step that leaves the call going, in a world that has what the step needs, leaves it live, and
--- lowers how many steps it may still make, where the log has room for a write at all. Only a walk
--- lists keys.
+-- lowers how many steps it may still make, where the log has room for a write at all. A call that
+-- may add a key has no keys to list.
 abbrev pub GoingFalls : (K V E : Type 0) → (K → K → Bool) → Type 0
 GoingFalls K V E eq =
     (n : ℕ) (c : Call K V E) (w new : World K V E) (given : Got K V E) (before after : Work) →
-    c.aborts < retries → 0 < before.size → (walks c.plan ≡ false → before.keys ≡ 0) →
+    c.aborts < retries → 0 < before.size →
+    (0 < raised (access_of n c) given → before.keys ≡ 0) →
     May w (access_of n c) → Gets eq n w (access_of n c) given new → Counts n w before →
     Counts n new after → Shortens before after (access_of n c) given →
     (next_of n c given).turn ≡ turns.Going →

@@ -2,11 +2,13 @@
 ghost use Rattle.std.specs.Prelude.{◌≡◌};
 ghost use Rattle.moka_cache.specs.Stages.{MayEnd};
 
-use moka_hist::{Answer, Cause, CompResult, Entry, Kind, Load, Mode, Rules, Sought, Stored, Write};
+use moka_hist::{
+    Answer, Cause, CompResult, Entry, Id, IdList, Kind, Load, Mode, Rules, Sought, Stored, Write,
+};
 use moka_init::points::{
     Asks, Chosen, Computing, Drained, Ending, KeyCompute, Listening, Loading, Locked, Look,
-    Looking, Part, PartKeys, Point, Posted, Posting, Put, Removal, Removing, TakeOut, Then,
-    Uncopied, Walk, Writing,
+    Looking, Maintenance, Part, PartKeys, Point, Posted, Posting, Put, Removal, Removing, TakeOut,
+    Then, Uncopied, Walk, Writing,
 };
 use moka_init::{Flow, KeysLeft};
 use moka_kept::Live;
@@ -57,8 +59,14 @@ pub(crate) type Nested<K, V, E> = PhantomData<
             TakeOut<K>,
             Ending<V, E>,
         ),
-        (Walk<K, V>, PartKeys<K>, Part, KeysLeft<K>),
-        (Asks, Then, Removal),
+        (
+            Walk<K, V>,
+            Maintenance<K, V>,
+            PartKeys<K>,
+            Part,
+            KeysLeft<K>,
+        ),
+        (Asks, Then, Removal, IdList, Id),
     ),
 >;
 

@@ -140,6 +140,7 @@ const BAD: [(u64, &str); 3] = [
         cache\nstart invalidate_if -2\n|cache\nstart invalidate_ifs 2\n|\
         cache\nstart invalidate_if 18446744073709551616\n|\
         cache\nstart iter 1\n|cache\nstart iter \n|cache\nstart iter_\n|\
+        cache\nstart pending 1\n|cache\nstart pending \n|cache\nstart pendin\n|\
         cache\nstart remove 4294967296\n|cache\nstart evict 1\n|cache\nstart evict 1 1\n|\
         cache\nstart evict 1 1 size\n|cache\nstart evict 1 1 Size \n|\
         cache\nstart evict 1 18446744073709551616 Size\n",
@@ -289,7 +290,8 @@ const FORMS: [&str; 4] = [
         start invalidate_if 0 => Start { start: InvalidateIf { test: 0 } }\n\
         start invalidate_if 18446744073709551615 => \
         Start { start: InvalidateIf { test: 18446744073709551615 } }\n\
-        start iter => Start { start: Iter }\n",
+        start iter => Start { start: Iter }\n\
+        start pending => Start { start: Pending }\n",
     // Loads.
     "start get_with 0 => Start { start: GetWith { key: 0, replace: None } }\n\
         start get_with 4294967295 if 0 => \

@@ -1,5 +1,5 @@
 -- States that a desk stands for beside another.
-use Rattle.std.proofs.Common.{◌≡◌, ℕ, ◌==◌, Bool, true, false, cond, Option, Some, None, IsNone, is_some, nat_eq, refl, sym, ap, ◌∙◌}
+use Rattle.std.proofs.Common.{◌≡◌, ℕ, ◌==◌, Bool, true, false, cond, None, IsNone, is_some, nat_eq, refl}
 use Rattle.std.specs.HashMap.{get}
 use Rattle.std.specs.declared.cmp.PartialEq as PartialEq
 use Rattle.std.specs.declared.hash.Hash as Hash
@@ -50,6 +50,7 @@ module _ {K V E : Type 0} {same : PartialEq.Ghosts K} {hash : Hash.Ghosts K} (eq
       one_locker = s.one_locker;
       locks = s.locks;
       locked = s.locked;
+      one_id = s.one_id;
     };
     holds = (none, record { stands = f.unused.stands; held = f.unused.held });
   }
@@ -90,6 +91,7 @@ module _ {K V E : Type 0} {same : PartialEq.Ghosts K} {hash : Hash.Ghosts K} (eq
       one_locker = s.one_locker;
       locks = s.locks;
       locked = s.locked;
+      one_id = s.one_id;
     };
     holds = by (call == call) refl;
   } where

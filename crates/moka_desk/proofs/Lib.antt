@@ -25,3 +25,5 @@ pub mod Allowing
 pub mod Timely
 pub mod FreeIds
 pub mod Registrations
+pub mod OwnIds
+pub mod Pendings

@@ -74,6 +74,9 @@ module _ {K V E : Type 0} where
   meets_is_may w call (visit.EndTurn n) is = along (λ m. w.turn ≡ Some m) n call is
   meets_is_may w call visit.InvalidateAll is = ((λ h. h), (λ h. h))
   meets_is_may w call (visit.Register test) is = ((λ h. h), (λ h. h))
+  meets_is_may w call visit.Candidates is = ((λ h. h), (λ h. h))
+  meets_is_may w call (visit.Strike ids key stored) is = ((λ h. h), (λ h. h))
+  meets_is_may w call (visit.Retire ids) is = ((λ h. h), (λ h. h))
 
 -- ---- what a call reads
 

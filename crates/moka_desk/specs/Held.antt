@@ -1,10 +1,10 @@
 -- What is kept of the writes that are held or owed.
-use Rattle.std.specs.Prelude.{ℕ, ◌+◌, ◌==◌, Bool, false, not, cond, List, length, map, Option, is_some, nat_eq, vec_capacity}
-use Rattle.std.specs.Option.{option_map, option_map_or}
+use Rattle.std.specs.Prelude.{ℕ, zero, suc, ◌+◌, ◌==◌, nat_le, Bool, false, not, ◌&&◌, ◌||◌, cond, List, length, map, Option, is_some, nat_eq, vec_capacity}
+use Rattle.std.specs.Option.{option_and_then, option_map, option_map_or}
 use Rattle.std.specs.List.{filter}
 use Rattle.std.specs.Map.{lookup}
 use Rattle.std.specs.HashMap.{get, hash_map_len}
-use Rattle.moka_hist.specs.Visits.{number_of, without_moment}
+use Rattle.moka_hist.specs.Visits.{moment_of, number_of, without_moment}
 use Rattle.moka_hist.specs.Conditions.{held_number}
 use Rattle.moka_hist.specs.declared.writes.Holding.{Holding}
 use Rattle.moka_hist.specs.declared.writes.Owed.{Owed}
@@ -29,6 +29,22 @@ holding_room holdings = vec_capacity holdings.rest
 -- what the call holds once its write is decided
 abbrev pub decided_holding : Option Holding → Option Holding
 decided_holding held = option_map without_moment held
+
+-- the call has a moment pending at or before this one
+abbrev pub pends_by : Holdings → ℕ → ℕ → Bool
+pends_by holdings moment call =
+    option_map_or (λ taken. nat_le taken moment)
+    (option_and_then moment_of (held_by holdings call)) false
+
+-- and its number is no greater than this
+abbrev pub pends_up_to : Holdings → ℕ → ℕ → ℕ → Bool
+pends_up_to holdings last moment call = nat_le call last && pends_by holdings moment call
+
+-- some call up to this number has one
+unfoldable pub some_pends_by : Holdings → ℕ → ℕ → Bool
+some_pends_by holdings moment zero = pends_by holdings moment 0
+some_pends_by holdings moment (suc call) =
+    pends_by holdings moment (suc call) || some_pends_by holdings moment call
 
 -- this call is the one that holds the write
 abbrev pub is_holder : Option (Option ℕ) → ℕ → Bool

@@ -73,3 +73,6 @@ module _ {K V E : Type 0} where
   Meets w call need.EndTurn = w.turn ≡ Some call
   Meets w call need.InvalidateAll = Unit {0}
   Meets w call need.Register = Unit {0}
+  Meets w call need.Candidates = Unit {0}
+  Meets w call need.Strike = Unit {0}
+  Meets w call need.Retire = Unit {0}

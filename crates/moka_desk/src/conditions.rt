@@ -66,6 +66,9 @@ impl<K: Eq + Hash + Exact, V: Drop, E: Drop> Desk<K, V, E> {
             Need::EndTurn => self.has_turn(call),
             Need::InvalidateAll => true,
             Need::Register => true,
+            Need::Candidates => true,
+            Need::Strike => true,
+            Need::Retire => true,
         }
     }
 

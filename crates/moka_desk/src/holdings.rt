@@ -1,9 +1,12 @@
 //! What each call holds of writes, by the call.
 
-ghost use Rattle.std.specs.Prelude.{◌≡◌, ℕ, ◌+◌, ◌≤◌, ◌<◌, ◌==◌, true, cond, length, min, Option, Some, None, is_some, nat_eq, vec_capacity, OnOk, if◌then◌else◌};
+ghost use Rattle.std.specs.Prelude.{◌≡◌, ℕ, ◌+◌, ◌≤◌, ◌<◌, ◌==◌, ◌||◌, nat_le, true, false, cond, length, min, Option, Some, None, is_some, nat_eq, vec_capacity, OnOk, if◌then◌else◌};
 ghost use Rattle.std.specs.Map.{lookup};
-ghost use Rattle.std.specs.HashMap.{get, hash_map_len};
+ghost use Rattle.std.specs.HashMap.{get, hash_map_len, keys};
+ghost use Rattle.std.specs.List.{list_any};
+ghost use Rattle.std.specs.Option.{option_map_or};
 ghost use Rattle.moka_desk.specs.Held.{held_by, held_count, holding_room, decided_holding, others_of};
+ghost use Rattle.moka_desk.specs.Held.{pends_up_to, some_pends_by};
 
 use crate::maps::at;
 use moka_hist::Holding;
@@ -110,6 +113,71 @@ impl Holdings {
             Some(Holding::TookUp { .. }) => {}
             None => {}
         }
+    }
+
+    /// The earliest moment that is pending with a call up to this number, if any is: the one at
+    /// or before just those moments by which one is.
+    pub(crate) fn earliest(&self, last: u64) -> Option<u64>
+        ensures { (moment : ℕ) → some_pends_by self.now moment last
+            ≡ option_map_or (λ taken. nat_le taken moment) result false }
+    {
+        let mut earliest = self.earliest_mapped(last);
+        for held in &self.rest {
+            earliest = self.earlier(held.0, last, earliest);
+        }
+        earliest
+    }
+
+    // The earliest moment that is pending with a call up to this number that is in the map.
+    fn earliest_mapped(&self, last: u64) -> Option<u64>
+        ensures { (moment : ℕ) → option_map_or (λ taken. nat_le taken moment) result false
+            ≡ list_any (pends_up_to self.now last moment) (keys self.now.by_call) }
+    {
+        let mut earliest = None;
+        for call in self.by_call.keys() {
+            earliest = self.earlier(*call, last, earliest);
+        }
+        earliest
+    }
+
+    // The earlier one of this moment and of that which is pending with the call, if its number is
+    // no greater than this.
+    fn earlier(&self, call: u64, last: u64, than: Option<u64>) -> Option<u64>
+        ensures { (moment : ℕ) → option_map_or (λ taken. nat_le taken moment) result false
+            ≡ (option_map_or (λ taken. nat_le taken moment) than false
+            || pends_up_to self.now last moment call) }
+    {
+        if last < call {
+            return than;
+        }
+        match self.get(call) {
+            Some(Holding::Own { pending }) => earlier_of(pending, than),
+            Some(Holding::TookUp { .. }) => than,
+            None => than,
+        }
+    }
+}
+
+// The earlier one of these moments, if there is one.
+fn earlier_of(one: Option<u64>, other: Option<u64>) -> Option<u64>
+    ensures { (moment : ℕ) → option_map_or (λ taken. nat_le taken moment) result false
+        ≡ (option_map_or (λ taken. nat_le taken moment) other false
+        || option_map_or (λ taken. nat_le taken moment) one false) }
+{
+    match one {
+        Some(first) => Some(first_of(first, other)),
+        None => other,
+    }
+}
+
+// The earlier one of these moments.
+fn first_of(first: u64, other: Option<u64>) -> u64
+    ensures { (moment : ℕ) → nat_le result moment
+        ≡ (option_map_or (λ taken. nat_le taken moment) other false || nat_le first moment) }
+{
+    match other {
+        Some(second) => first.min(second),
+        None => first,
     }
 }
 

@@ -98,6 +98,8 @@ impl<K: Eq + Hash + Exact, V: Drop, E: Drop> Desk<K, V, E> {
 
     /// Invalidates all records: no look shows one any more that was written before the clock. It
     /// takes no record out, and no memory.
+    #[cold]
+    #[inline(never)]
     pub fn invalidate_all(&mut self)
         ensures makes { Makes K.eq self.old visit.InvalidateAll self.new }
         ensures quiet { NobodyMoves self.old self.new }

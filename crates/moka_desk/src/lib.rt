@@ -18,6 +18,7 @@ mod notices;
 mod predicates;
 mod records;
 mod registering;
+mod retiring;
 mod state;
 mod waits;
 mod writes;

@@ -27,6 +27,8 @@ impl<K: Eq + Hash + Exact, V: Drop, E: Drop> Desk<K, V, E> {
 
     /// Takes the key's lock for the call, which holds none. Answers false where another call holds
     /// it; the call waits for it then.
+    #[cold]
+    #[inline(never)]
     pub fn lock_key(&mut self, call: u64, key: &K) -> Result<bool, AllocError>
         requires free { Can K.eq self.old (visit.LockKey call key.now) }
         ensures finds { IfOk result (λ locked. Finds K.eq self.old (visit.LockKey call key.now)
@@ -59,6 +61,8 @@ impl<K: Eq + Hash + Exact, V: Drop, E: Drop> Desk<K, V, E> {
     /// Frees the lock that the call holds, and hands out all calls that wait for it. A pending
     /// moment of the call ends. Where nothing was written under the lock (`wrote` is false), gives
     /// the call's places for a write back; the call took no owed write up then.
+    #[cold]
+    #[inline(never)]
     pub fn unlock_key(&mut self, call: u64, wrote: bool) -> CallList
         requires { Can K.eq self.old (visit.UnlockKey call wrote) }
         ensures makes { Makes K.eq self.old (visit.UnlockKey call wrote) self.new }
@@ -78,6 +82,8 @@ impl<K: Eq + Hash + Exact, V: Drop, E: Drop> Desk<K, V, E> {
     /// left: the cause handed in, or else, by `upsert`, that of a record that a write replaced or a
     /// call took out. Where the listener is off the notice is skipped, and the answer is None. The
     /// call has no notice yet, and its pending moment ends.
+    #[cold]
+    #[inline(never)]
     pub fn open_notice(
         &mut self,
         call: u64,
@@ -109,6 +115,8 @@ impl<K: Eq + Hash + Exact, V: Drop, E: Drop> Desk<K, V, E> {
 
     /// Whether the notice of this number runs no longer. Where it runs the call waits for its end,
     /// and only there memory may be wanting.
+    #[cold]
+    #[inline(never)]
     pub fn notice_ended(&mut self, call: u64, notice: u64) -> Result<bool, AllocError>
         ensures finds { IfOk result (λ ended. Finds K.eq self.old (visit.NoticeEnded call notice)
             (found.NoticeEnded ended)) }

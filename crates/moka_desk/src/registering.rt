@@ -30,6 +30,8 @@ impl<K: Eq + Hash + Exact, V: Drop, E: Drop> Desk<K, V, E> {
     /// | `Memory` | memory was wanting; the desk stays as it was | none |
     /// | `NoId` | each of the next 1000 ids is registered | 1000 |
     /// | an id | else | up to that one |
+    #[cold]
+    #[inline(never)]
     pub fn register<G: Ids>(&mut self, test: u64, ids: &mut G) -> Result<u128, PredicateError>
         // what is registered, and drawn
         ensures finds { UnlessMemory result ((w : DeskPart K V E) → StandsFor K.eq self.old w

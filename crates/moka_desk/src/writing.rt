@@ -97,6 +97,8 @@ impl<K: Eq + Hash + Exact, V: Drop, E: Drop> Desk<K, V, E> {
 
     /// Takes the maintenance turn for the call, which doesn't have it. Answers false where another
     /// call has it; the call waits for it then, and only there memory may be wanting.
+    #[cold]
+    #[inline(never)]
     pub fn take_turn(&mut self, call: u64) -> Result<bool, AllocError>
         requires { Can K.eq self.old (visit.TakeTurn call) }
         ensures finds { IfOk result (λ taken. Finds K.eq self.old (visit.TakeTurn call)
@@ -153,6 +155,8 @@ impl<K: Eq + Hash + Exact, V: Drop, E: Drop> Desk<K, V, E> {
 
     /// Publishes how many applied upserts stand unreplaced, gives up the turn, which the call has,
     /// and hands out all calls that wait for it.
+    #[cold]
+    #[inline(never)]
     pub fn end_turn(&mut self, call: u64) -> CallList
         requires { Can K.eq self.old (visit.EndTurn call) }
         ensures makes { Makes K.eq self.old (visit.EndTurn call) self.new }

@@ -157,30 +157,30 @@ module _ {K V E : Type 0} (eq : K → K → Bool) where
   some_same d c e = cc
 
   -- the first step takes up nothing, and goes on to the look
-  drained : (n : ℕ) (key : K) (r : Rules) (m : Mode) (aborts : ℕ) (mid new : World K V E) (d : Call K V E) (g : Got K V E) → IsEmpty mid
+  drained : (n : ℕ) (key : K) (r : Rules) (m : Mode) (aborts : ℕ) (ids : Option (List (ℕ × ℕ))) (mid new : World K V E) (d : Call K V E) (g : Got K V E) → IsEmpty mid
       → Gets eq n mid (On_desk (visit.TakeOwed n)) g new
-      → going_as d ≡ next_of n (record { rules = r; mode = m; plan = plan.Drain ∷ plan.Get (plan.To_show plan.As_value) key ∷ []; aborts = aborts }) g
+      → going_as d ≡ next_of n (record { rules = r; mode = m; plan = plan.Drain ∷ plan.Get (plan.To_show plan.As_value) key ∷ []; aborts = aborts; carried = ids }) g
       → IsEmpty new × Looks d
-  drained n key r m aborts mid new d (got.Table t) bare gets goes = absurd gets
-  drained n key r m aborts mid new d (got.Desk f) bare gets goes =
+  drained n key r m aborts ids mid new d (got.Table t) bare gets goes = absurd gets
+  drained n key r m aborts ids mid new d (got.Desk f) bare gets goes =
       let is : f ≡ found.TakeOwed None = gets.0 ∙ owes_none mid n bare in
-      let c : Call K V E = record { rules = r; mode = m; plan = plan.Drain ∷ plan.Get (plan.To_show plan.As_value) key ∷ []; aborts = aborts } in
+      let c : Call K V E = record { rules = r; mode = m; plan = plan.Drain ∷ plan.Get (plan.To_show plan.As_value) key ∷ []; aborts = aborts; carried = ids } in
       let next : going_as d ≡ next_of n c (got.Desk (found.TakeOwed None)) = goes ∙ ap (λ (x : Found V E). next_of n c (got.Desk x)) is in
-      let left : Some d ≡ Some (record { rules = r; mode = mode.Mid; plan = plan.Get (plan.To_show plan.As_value) key ∷ []; aborts = aborts }) = ap (λ x. x.left) next in
+      let left : Some d ≡ Some (record { rules = r; mode = mode.Mid; plan = plan.Get (plan.To_show plan.As_value) key ∷ []; aborts = aborts; carried = ids }) = ap (λ x. x.left) next in
       (subst (λ (w : World K V E). IsEmpty w) (sym gets.1) (still_bare mid n bare), inr (key, ap (λ x. x.plan) (some_same d _ left)))
 
   -- an undecided look stays; a decided one has answered
-  looked : (n : ℕ) (key : K) (r : Rules) (m : Mode) (aborts : ℕ) (mid new : World K V E) (d : Call K V E) (g : Got K V E) → IsEmpty mid
+  looked : (n : ℕ) (key : K) (r : Rules) (m : Mode) (aborts : ℕ) (ids : Option (List (ℕ × ℕ))) (mid new : World K V E) (d : Call K V E) (g : Got K V E) → IsEmpty mid
       → Gets eq n mid (On_table (op.Get key)) g new
-      → going_as d ≡ next_of n (record { rules = r; mode = m; plan = plan.Get (plan.To_show plan.As_value) key ∷ []; aborts = aborts }) g
+      → going_as d ≡ next_of n (record { rules = r; mode = m; plan = plan.Get (plan.To_show plan.As_value) key ∷ []; aborts = aborts; carried = ids }) g
       → IsEmpty new × Looks d
-  looked n key r m aborts mid new d (got.Desk f) bare gets goes = absurd gets
-  looked n key r m aborts mid new d (got.Table table.Going) bare gets goes =
-      let left : Some d ≡ Some (record { rules = r; mode = mode.Mid; plan = plan.Get (plan.To_show plan.As_value) key ∷ []; aborts = aborts }) = ap (λ x. x.left) goes in
+  looked n key r m aborts ids mid new d (got.Desk f) bare gets goes = absurd gets
+  looked n key r m aborts ids mid new d (got.Table table.Going) bare gets goes =
+      let left : Some d ≡ Some (record { rules = r; mode = mode.Mid; plan = plan.Get (plan.To_show plan.As_value) key ∷ []; aborts = aborts; carried = ids }) = ap (λ x. x.left) goes in
       (subst (λ (w : World K V E). IsEmpty w) (sym gets.1) (record { owed = bare.owed; holding = bare.holding; stored = bare.stored }), inr (key, ap (λ x. x.plan) (some_same d _ left)))
-  looked n key r m aborts mid new d (got.Table (table.Decided a)) bare gets goes =
+  looked n key r m aborts ids mid new d (got.Table (table.Decided a)) bare gets goes =
       let is : a ≡ answer.None = gets.1.0 ∙ ap (λ o. answer_of o) (bare.stored key) in
-      let c : Call K V E = record { rules = r; mode = m; plan = plan.Get (plan.To_show plan.As_value) key ∷ []; aborts = aborts } in
+      let c : Call K V E = record { rules = r; mode = m; plan = plan.Get (plan.To_show plan.As_value) key ∷ []; aborts = aborts; carried = ids } in
       let next : going_as d ≡ next_of n c (got.Table (table.Decided answer.None)) = goes ∙ ap (λ (x : TableAnswer K V). next_of n c (got.Table (table.Decided x))) is in
       let left : Some d ≡ None = ap (λ x. x.left) next in
       absurd (no_some d left)
@@ -189,15 +189,15 @@ module _ {K V E : Type 0} (eq : K → K → Bool) where
   looks_more : (n : ℕ) (b : Call K V E) (mid new : World K V E) (d : Call K V E) → IsEmpty mid → Looks b
       → CallMoves eq n b mid (going_as d) new → IsEmpty new × Looks d
   looks_more n b mid new d bare (inl at) moves =
-      let c : Call K V E = record { rules = b.rules; mode = b.mode; plan = plan.Drain ∷ plan.Get (plan.To_show plan.As_value) at.0 ∷ []; aborts = b.aborts } in
+      let c : Call K V E = record { rules = b.rules; mode = b.mode; plan = plan.Drain ∷ plan.Get (plan.To_show plan.As_value) at.0 ∷ []; aborts = b.aborts; carried = b.carried } in
       let is : b ≡ c = ap (λ p. record b { plan = p }) at.1 in
       let m : CallMoves eq n c mid (going_as d) new = subst (λ (x : Call K V E). CallMoves eq n x mid (going_as d) new) is moves in
-      drained n at.0 b.rules b.mode b.aborts mid new d m.given bare m.gets m.goes
+      drained n at.0 b.rules b.mode b.aborts b.carried mid new d m.given bare m.gets m.goes
   looks_more n b mid new d bare (inr at) moves =
-      let c : Call K V E = record { rules = b.rules; mode = b.mode; plan = plan.Get (plan.To_show plan.As_value) at.0 ∷ []; aborts = b.aborts } in
+      let c : Call K V E = record { rules = b.rules; mode = b.mode; plan = plan.Get (plan.To_show plan.As_value) at.0 ∷ []; aborts = b.aborts; carried = b.carried } in
       let is : b ≡ c = ap (λ p. record b { plan = p }) at.1 in
       let m : CallMoves eq n c mid (going_as d) new = subst (λ (x : Call K V E). CallMoves eq n x mid (going_as d) new) is moves in
-      looked n at.0 b.rules b.mode b.aborts mid new d m.given bare m.gets m.goes
+      looked n at.0 b.rules b.mode b.aborts b.carried mid new d m.given bare m.gets m.goes
 
   -- as long as it goes on
   looks_on : (k n : ℕ) (c : Call K V E) (w : World K V E) (d : Call K V E) (mid : World K V E) → IsEmpty w → Looks c

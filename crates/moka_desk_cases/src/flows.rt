@@ -4,6 +4,7 @@ mod bare;
 mod computes;
 mod given;
 mod loads;
+mod maintaining;
 mod names;
 mod removals;
 mod rows;

@@ -4,7 +4,7 @@ ghost use Rattle.moka_desk_cases.specs.Turns.{by_turns};
 
 use crate::desks::{new_desk, rules_with};
 use moka_desk::Desk;
-use moka_hist::{Ids, PredicateError, Rules, Stored, TestList, Tests};
+use moka_hist::{IdList, Ids, PredicateError, Rules, Stored, TestList, Tests};
 use std::alloc::{AllocError, Global};
 use std::process::Abort;
 use std::test::Fail;
@@ -168,4 +168,73 @@ fn records_are_hit_that_are_not_later(rt: HostRuntime) -> Result<(), Fail> {
     let hits = hits_by_moments(&rt, rt.alloc(), &mut desk);
     drop(desk);
     hits
+}
+
+/// These predicates, by id and moment.
+fn named(alloc: Global, named: &[(u128, u64)]) -> Result<IdList, AllocError> {
+    let named = Vec::from_slice(alloc, named)?;
+    Ok(IdList::from_vec(named))
+}
+
+/// The predicates that may leave, once both were registered and the clock stands at the moment.
+fn candidates_at(desk: &mut Desk<u32, u32, u32>, moment: u64) -> Result<IdList, AllocError> {
+    let _ = desk.at(moment);
+    desk.candidates()
+}
+
+/// One that is of the clock's moment may not leave, and those that don't hide the record are left.
+fn chooses_by_moment(
+    rt: &impl Abort,
+    alloc: Global,
+    desk: &mut Desk<u32, u32, u32>,
+) -> Result<(), Fail> {
+    assert_eq!(rt; register_both(desk), Ok(8));
+    assert_eq!(rt; candidates_at(desk, 7)?.as_slice(), [(7, 5)].as_slice());
+    assert_eq!(rt;
+        candidates_at(desk, 8)?.as_slice(),
+        [(7, 5), (8, 7)].as_slice()
+    );
+    let stored = Stored {
+        value: 4,
+        stamp: 1,
+        modified: 5,
+    };
+    let both = named(alloc, &[(7, 5), (8, 7)])?;
+    let left = desk.strike(&ByValue {}, both, &2, &stored);
+    assert_eq!(rt; left.as_slice(), [(8, 7)].as_slice());
+    Ok(())
+}
+
+#[test]
+fn predicates_may_leave_once_their_moment_is_past(rt: HostRuntime) -> Result<(), Fail> {
+    let mut desk = closures_desk(rt.alloc())?;
+    let chosen = chooses_by_moment(&rt, rt.alloc(), &mut desk);
+    drop(desk);
+    chosen
+}
+
+/// One leaves by its id and its moment alone.
+fn leaves_by_both(
+    rt: &impl Abort,
+    alloc: Global,
+    desk: &mut Desk<u32, u32, u32>,
+) -> Result<(), Fail> {
+    assert_eq!(rt; register_both(desk), Ok(8));
+    let other = named(alloc, &[(7, 6), (9, 7)])?;
+    desk.retire(&other);
+    assert_eq!(rt; desk.predicate_count(), 2);
+    let first = named(alloc, &[(7, 5)])?;
+    desk.retire(&first);
+    assert!(rt; !is_hit(desk, 4, 0));
+    assert!(rt; is_hit(desk, 3, 0));
+    assert_eq!(rt; desk.predicate_count(), 1);
+    Ok(())
+}
+
+#[test]
+fn predicates_leave_by_id_and_moment(rt: HostRuntime) -> Result<(), Fail> {
+    let mut desk = closures_desk(rt.alloc())?;
+    let left = leaves_by_both(&rt, rt.alloc(), &mut desk);
+    drop(desk);
+    left
 }

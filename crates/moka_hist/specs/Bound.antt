@@ -47,4 +47,5 @@ does_walk s n = option_map_or (λ c. walks c.plan) (s.calls n) false
 abbrev pub step_bound : {K V E : Type 0} → State K V E → ℕ → ℕ
 step_bound s n =
     let share : ℕ = table_share s.world.table (does_walk s n) in
-    64 * (4 + share + length s.world.desk.owed + length s.world.desk.log)
+    64 *
+    (4 + share + length s.world.desk.owed + length s.world.desk.log + length s.world.desk.registered)

@@ -103,6 +103,9 @@ module _ {K V E : Type 0} where
   MayVisit w (visit.EndTurn call) = w.turn ≡ Some call
   MayVisit w visit.InvalidateAll = Unit {0}
   MayVisit w (visit.Register test) = Unit {0}
+  MayVisit w visit.Candidates = Unit {0}
+  MayVisit w (visit.Strike ids key stored) = Unit {0}
+  MayVisit w (visit.Retire ids) = Unit {0}
 
   -- the desk allows the call to leave this write to others, if any: it holds it
   abbrev pub MayLeave : DeskPart K V E → ℕ → Option Write → Type 0

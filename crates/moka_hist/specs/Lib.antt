@@ -16,6 +16,7 @@ pub mod Writing
 pub mod Listening
 pub mod Invalidating
 pub mod Walking
+pub mod Maintenance
 pub mod Step
 pub mod Dropping
 pub mod Telling

@@ -102,6 +102,11 @@ pub data Item (K V E : Type 0) : Type 0 where
   List_keys : (part : ℕ) → Item K V E
   Find : (key : K) → Item K V E
   Scan : (there : K) → (found : Stored V) → Item K V E
+  -- choose the predicates that may leave, of a table with so many parts; strike those that hide the
+  -- record that was found; and let the others leave
+  Candidates : (parts : ℕ) → Item K V E
+  Strike : (there : K) → (found : Stored V) → Item K V E
+  Retire : Item K V E
   -- answer, together with the step before
   Reply : (answer : reply.Answer K V E) → Item K V E
 
@@ -165,15 +170,25 @@ abbrev pub or_insert_plan : {K V E : Type 0} → Bool → K → V → List (Item
 or_insert_plan true key value = Drain ∷ Reply (answer.Loaded value true) ∷ []
 or_insert_plan false key value = Drain ∷ look (To_insert key value) key
 
--- list so many parts, from this one on, and end
+-- list so many parts, from this one on, and go on so
+abbrev pub lists_from : {K V E : Type 0} → ℕ → ℕ → List (Item K V E) → List (Item K V E)
+lists_from part zero rest = rest
+lists_from part (suc left) rest = List_keys part ∷ lists_from (part + 1) left rest
+
+-- list them, and end
 abbrev pub walk_from : {K V E : Type 0} → ℕ → ℕ → List (Item K V E)
-walk_from part zero = Reply answer.End ∷ []
-walk_from part (suc left) = List_keys part ∷ walk_from (part + 1) left
+walk_from part left = lists_from part left (Reply answer.End ∷ [])
 
 -- the plan of a walk over so many parts
 abbrev pub iter_plan : {K V E : Type 0} → Bool → ℕ → List (Item K V E)
 iter_plan true parts = Reply answer.End ∷ []
 iter_plan false parts = walk_from 0 parts
+
+-- the plan of maintenance: take up and post what is owed, apply the log, and let predicates go that
+-- hide nothing any more
+abbrev pub pending_plan : {K V E : Type 0} → Bool → ℕ → List (Item K V E)
+pending_plan true parts = Reply answer.Done ∷ []
+pending_plan false parts = Drain ∷ Turn ∷ Apply ∷ End ∷ Candidates parts ∷ []
 
 -- the whole plan of a fresh call, where the table has so many parts
 abbrev pub plan_of : {K V E : Type 0} → ℕ → Rules → event.Start K V → List (Item K V E)
@@ -195,12 +210,23 @@ plan_of parts rules (start.Evict key stamp cause) =
 plan_of parts rules start.InvalidateAll = Invalidate_all ∷ Reply answer.Done ∷ []
 plan_of parts rules (start.InvalidateIf test) = Register test ∷ []
 plan_of parts rules start.Iter = iter_plan (is_disabled rules) parts
+plan_of parts rules start.Pending = pending_plan (is_disabled rules) parts
 
--- a list is to be made, a key to be looked up or a record to be judged
+-- A list is to be made, a key to be looked up, or a record to be judged or struck by. Maintenance
+-- walks from its start to its end.
 abbrev pub walks : {K V E : Type 0} → List (Item K V E) → Bool
 walks (List_keys part ∷ rest) = true
 walks (Find key ∷ rest) = true
 walks (Scan there found ∷ rest) = true
+walks (Candidates parts ∷ rest) = true
+walks (Strike there found ∷ rest) = true
+walks (Retire ∷ rest) = true
+walks (Drain ∷ rest) = walks rest
+walks (Ended notice ∷ rest) = walks rest
+walks (Post held ∷ rest) = walks rest
+walks (Turn ∷ rest) = walks rest
+walks (Apply ∷ rest) = walks rest
+walks (End ∷ rest) = walks rest
 walks _ = false
 
 -- the write that a call holds
@@ -238,6 +264,9 @@ held_by (Register test ∷ rest) = held_by rest
 held_by (List_keys part ∷ rest) = held_by rest
 held_by (Find key ∷ rest) = held_by rest
 held_by (Scan there found ∷ rest) = held_by rest
+held_by (Candidates parts ∷ rest) = held_by rest
+held_by (Strike there found ∷ rest) = held_by rest
+held_by (Retire ∷ rest) = held_by rest
 held_by (Reply answer ∷ rest) = held_by rest
 
 -- the notice that the call of this number is hearing: its own, or that of an owed write
@@ -275,4 +304,7 @@ hearing n (Register test ∷ rest) = None
 hearing n (List_keys part ∷ rest) = None
 hearing n (Find key ∷ rest) = None
 hearing n (Scan there found ∷ rest) = None
+hearing n (Candidates parts ∷ rest) = None
+hearing n (Strike there found ∷ rest) = None
+hearing n (Retire ∷ rest) = None
 hearing n (Reply answer ∷ rest) = None

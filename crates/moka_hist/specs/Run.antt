@@ -1,5 +1,5 @@
 -- Runs of the reference cache on events.
-use Rattle.std.specs.Prelude.{◌<◌, ◌≤◌, ◌≡◌, ◌≢◌, ℕ, zero, suc, ◌+◌, ◌^◌, ◌-◌, ◌==◌, nat_lt, Bool, true, MatchBool, List, [], ◌∷◌, Some, MatchOption}
+use Rattle.std.specs.Prelude.{◌<◌, ◌≤◌, ◌≡◌, ◌≢◌, ℕ, zero, suc, ◌+◌, ◌^◌, ◌-◌, ◌==◌, nat_lt, Bool, true, MatchBool, List, [], ◌∷◌, Some, None, MatchOption}
 use Rattle.moka_hist.specs.Finite.{put_at}
 use Rattle.moka_hist.specs.State.{Call, DeskPart, Division, Handed, State, fresh}
 use Rattle.moka_hist.specs.Plan.{plan_of}
@@ -43,7 +43,13 @@ module _ {K V E : Type 0} where
   -- the call as it is started, where the table has so many parts
   abbrev pub fresh_call : ℕ → Rules → Start K V → Call K V E
   fresh_call parts rules start =
-      record { rules = rules; mode = mode.Fresh; plan = plan_of parts rules start; aborts = 0 }
+      record {
+        rules = rules;
+        mode = mode.Fresh;
+        plan = plan_of parts rules start;
+        aborts = 0;
+        carried = None;
+      }
 
   -- the state with this desk
   abbrev pub with_desk : State K V E → DeskPart K V E → State K V E

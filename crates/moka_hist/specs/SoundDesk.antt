@@ -1,12 +1,13 @@
 -- What is true of the desk after any visits that it allows.
-use Rattle.std.specs.Prelude.{◌≡◌, ◌≤◌, ℕ, Bool, true, Some, IsSomeAnd}
+use Rattle.std.specs.Prelude.{◌≡◌, ◌≤◌, ℕ, Bool, true, Some, IsSomeAnd, map}
 use Rattle.moka_hist.specs.Finite.{load_eq, times}
 use Rattle.moka_hist.specs.State.{DeskPart}
 use Rattle.moka_hist.specs.Conditions.{held_number, numbers_of}
 use Rattle.moka_hist.specs.declared.loads.Load.{Load}
 use Rattle.moka_hist.specs.declared.writes.Holding.{Holding}
 
--- No write stands twice or with two calls, and a load and its owner are one to one.
+-- No write stands twice or with two calls, a load and its owner are one to one, and no two
+-- predicates are registered under one id.
 pub record SoundDesk {K V E : Type 0} (eq : K → K → Bool) (w : DeskPart K V E) : Type 0 where
   -- no number stands twice in what is owed, logged and applied together; none of them is that of a
   -- held write; and no two calls hold writes of one number
@@ -24,3 +25,5 @@ pub record SoundDesk {K V E : Type 0} (eq : K → K → Bool) (w : DeskPart K V 
   pub one_locker : (a b : K) → eq a b ≡ true → w.locks a ≡ w.locks b
   pub locks : (k : K) (n : ℕ) → w.locks k ≡ Some n → IsSomeAnd (w.locked n) (λ own. eq own k ≡ true)
   pub locked : (k : K) (n : ℕ) → w.locked n ≡ Some k → w.locks k ≡ Some n
+  -- no id stands twice among the registered predicates
+  pub one_id : (id : ℕ) → times id (map (λ r. r.id) w.registered) ≤ 1

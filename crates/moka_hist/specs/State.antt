@@ -97,13 +97,15 @@ pub record DeskPart (K V E : Type 0) : Type 0 where
   pub asks : ℕ → Option Takes
   pub told : ℕ → Option (Told V E)
 
--- What a live call is to the reference: how far it is, what it has still to do, and how often it
--- has read that an owner was dropped; beside them the rules of its cache.
+-- What a live call is to the reference: how far it is, what it has still to do, how often it has
+-- read that an owner was dropped, and the predicates that it carries, by id and moment, where it is
+-- maintenance that walks; beside them the rules of its cache.
 pub record Call (K V E : Type 0) : Type 0 where
   pub rules : Rules
   pub mode : Mode
   pub plan : List (Item K V E)
   pub aborts : ℕ
+  pub carried : Option (List (ℕ × ℕ))
 
 -- How often in a row the table operation of one call has stayed undecided.
 pub record Stay : Type 0 where

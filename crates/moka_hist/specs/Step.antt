@@ -1,5 +1,5 @@
 -- One step of a call: one access, and what follows from its answer.
-use Rattle.std.specs.Prelude.{◌<◌, ◌≢◌, suc, zero, ◌≡◌, ℕ, Bool, true, false, List, [], ◌∷◌, Option, Some, None}
+use Rattle.std.specs.Prelude.{◌<◌, ◌≢◌, suc, zero, ◌≡◌, ℕ, Bool, true, false, List, [], ◌∷◌, Option, Some, None, unwrap_or}
 use Rattle.moka_hist.specs.Finite.{put_at}
 use Rattle.moka_hist.specs.State.{Call, TablePart, World, State}
 use Rattle.moka_hist.specs.Plan.{Item, Aim}
@@ -15,6 +15,7 @@ use Rattle.moka_hist.specs.Loading.{after_own, after_read, after_ask, after_told
 use Rattle.moka_hist.specs.Computing.{after_own_key, after_own_alone, after_read_key, after_ask_op, after_told_op}
 use Rattle.moka_hist.specs.Listening.{after_lock, after_unlock, after_notice, after_hearing}
 use Rattle.moka_hist.specs.Invalidating.{after_invalidate_all, after_register}
+use Rattle.moka_hist.specs.Maintenance.{after_candidates, after_retire, after_strike}
 use Rattle.moka_hist.specs.Walking.{after_list, after_find, after_scan}
 use Rattle.moka_hist.specs.Writing.{after_moment, after_write, after_out, after_idle, stamp_asked}
 use Rattle.moka_hist.specs.declared.loads.Kind.{Kind}
@@ -57,44 +58,48 @@ replace_of (plan.To_compute compute) = None
 replace_of (plan.To_evict key stamp cause) = None
 
 module _ {K V E : Type 0} where
-  -- the access that an item needs
-  abbrev pub access_for : ℕ → Item K V E → Access K V E
-  access_for n plan.Drain = On_desk (visit.TakeOwed n)
-  access_for n (plan.Ended number) = On_desk (visit.NoticeEnded n number)
-  access_for n (plan.Post write) = On_desk (visit.PostWrite n write)
-  access_for n plan.Turn = On_desk (visit.TakeTurn n)
-  access_for n plan.Apply = On_desk (visit.ApplyOne n)
-  access_for n plan.End = On_desk (visit.EndTurn n)
-  access_for n (plan.Get aim key) = On_table (op.Get key)
-  access_for n (plan.Judge aim key stored) = On_desk (visit.Judge (replace_of aim) key stored)
-  access_for n (plan.Own sought) = On_desk (visit.WaitOrOwn n sought.load.key sought.load.kind)
-  access_for n (plan.Read sought) = On_desk (visit.ReadSettled n)
-  access_for n (plan.Settle with) = On_desk (visit.Settle n with)
-  access_for n (plan.Ask load) = On_desk (visit.OpenAsk n (takes_of load.kind))
-  access_for n (plan.Told load) = On_desk (visit.TakeTold n)
-  access_for n (plan.Own_key compute) =
+  -- the access that an item needs, of a call that carries these predicates, if any
+  abbrev pub access_for : ℕ → Option (List (ℕ × ℕ)) → Item K V E → Access K V E
+  access_for n ids plan.Drain = On_desk (visit.TakeOwed n)
+  access_for n ids (plan.Ended number) = On_desk (visit.NoticeEnded n number)
+  access_for n ids (plan.Post write) = On_desk (visit.PostWrite n write)
+  access_for n ids plan.Turn = On_desk (visit.TakeTurn n)
+  access_for n ids plan.Apply = On_desk (visit.ApplyOne n)
+  access_for n ids plan.End = On_desk (visit.EndTurn n)
+  access_for n ids (plan.Get aim key) = On_table (op.Get key)
+  access_for n ids (plan.Judge aim key stored) = On_desk (visit.Judge (replace_of aim) key stored)
+  access_for n ids (plan.Own sought) = On_desk (visit.WaitOrOwn n sought.load.key sought.load.kind)
+  access_for n ids (plan.Read sought) = On_desk (visit.ReadSettled n)
+  access_for n ids (plan.Settle with) = On_desk (visit.Settle n with)
+  access_for n ids (plan.Ask load) = On_desk (visit.OpenAsk n (takes_of load.kind))
+  access_for n ids (plan.Told load) = On_desk (visit.TakeTold n)
+  access_for n ids (plan.Own_key compute) =
       On_desk (visit.WaitOrOwn n compute.key kind.Compute)
-  access_for n (plan.Own_alone key) = On_desk (visit.OwnAlone n key)
-  access_for n (plan.Read_key compute) = On_desk (visit.ReadSettled n)
-  access_for n (plan.Ask_op compute found) = On_desk (visit.OpenAsk n compute.takes)
-  access_for n (plan.Told_op compute found) = On_desk (visit.TakeTold n)
-  access_for n (plan.Lock key) = On_desk (visit.LockKey n key)
-  access_for n (plan.Unlock wrote) = On_desk (visit.UnlockKey n wrote)
-  access_for n (plan.Notice key old cause upsert) =
+  access_for n ids (plan.Own_alone key) = On_desk (visit.OwnAlone n key)
+  access_for n ids (plan.Read_key compute) = On_desk (visit.ReadSettled n)
+  access_for n ids (plan.Ask_op compute found) = On_desk (visit.OpenAsk n compute.takes)
+  access_for n ids (plan.Told_op compute found) = On_desk (visit.TakeTold n)
+  access_for n ids (plan.Lock key) = On_desk (visit.LockKey n key)
+  access_for n ids (plan.Unlock wrote) = On_desk (visit.UnlockKey n wrote)
+  access_for n ids (plan.Notice key old cause upsert) =
       On_desk (visit.OpenNotice n key old.value old.stamp old.modified cause upsert)
-  access_for n plan.Heard = On_desk (visit.NoticeEnded n n)
-  access_for n (plan.Holds key stamp cause there found) = On_desk (visit.Holds there found cause)
-  access_for n (plan.Moment change) = On_desk (visit.StampMoment n)
-  access_for n (plan.Write key value moment) =
+  access_for n ids plan.Heard = On_desk (visit.NoticeEnded n n)
+  access_for n ids (plan.Holds key stamp cause there found) = On_desk (visit.Holds there found cause)
+  access_for n ids (plan.Moment change) = On_desk (visit.StampMoment n)
+  access_for n ids (plan.Write key value moment) =
       On_table (op.InsertOrModify key (record { value = value; stamp = n; modified = moment }))
-  access_for n (plan.Out removal key) = On_table (op.RemoveIf key (stamp_asked removal))
-  access_for n plan.Idle = On_desk (visit.Clock n)
-  access_for n plan.Invalidate_all = On_desk visit.InvalidateAll
-  access_for n (plan.Register test) = On_desk (visit.Register test)
-  access_for n (plan.List_keys part) = On_table (op.Keys part)
-  access_for n (plan.Find key) = On_table (op.Get key)
-  access_for n (plan.Scan there found) = On_desk (visit.Scan there found)
-  access_for n (plan.Reply answer) = On_desk (visit.Clock n)
+  access_for n ids (plan.Out removal key) = On_table (op.RemoveIf key (stamp_asked removal))
+  access_for n ids plan.Idle = On_desk (visit.Clock n)
+  access_for n ids plan.Invalidate_all = On_desk visit.InvalidateAll
+  access_for n ids (plan.Register test) = On_desk (visit.Register test)
+  access_for n ids (plan.List_keys part) = On_table (op.Keys part)
+  access_for n ids (plan.Find key) = On_table (op.Get key)
+  access_for n ids (plan.Scan there found) = On_desk (visit.Scan there found)
+  access_for n ids (plan.Candidates parts) = On_desk visit.Candidates
+  access_for n ids (plan.Strike there found) =
+      On_desk (visit.Strike (unwrap_or ids []) there found)
+  access_for n ids plan.Retire = On_desk (visit.Retire (unwrap_or ids []))
+  access_for n ids (plan.Reply answer) = On_desk (visit.Clock n)
 
   -- the access of a call's next step: that of its first item. Where nothing is left but an answer,
   -- it reads the clock
@@ -103,7 +108,7 @@ module _ {K V E : Type 0} where
     where
       by_plan : List (Item K V E) → Access K V E
       by_plan [] = On_desk (visit.Clock n)
-      by_plan (item ∷ rest) = access_for n item
+      by_plan (item ∷ rest) = access_for n c.carried item
 
   -- an access as it is wanted: an operation that was begun is gone on with
   abbrev pub want_for : Bool → Access K V E → Want K V E
@@ -154,6 +159,9 @@ module _ {K V E : Type 0} where
   after_visit c (plan.List_keys part) rest f = waits c
   after_visit c (plan.Find key) rest f = waits c
   after_visit c (plan.Scan there found) rest f = after_scan c there found rest f
+  after_visit c (plan.Candidates parts) rest f = after_candidates c parts f
+  after_visit c (plan.Strike there found) rest f = after_strike c rest f
+  after_visit c plan.Retire rest f = after_retire c f
   after_visit c (plan.Reply answer) rest f = goes c (plan.Reply answer ∷ [])
   after_visit c (plan.Get aim key) rest f = waits c
   after_visit c (plan.Write key value moment) rest f = waits c

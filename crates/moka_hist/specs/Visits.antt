@@ -1,5 +1,5 @@
 -- The visits of the desk: what each finds, and what it changes.
-use Rattle.std.specs.Prelude.{ℕ, zero, suc, ◌+◌, ◌-◌, ◌==◌, nat_lt, nat_le, max, Bool, true, false, not, cond, ◌&&◌, List, [], ◌∷◌, ◌++◌, length, take, drop, Option, Some, None, is_some, unwrap_or, Result, Ok, Err}
+use Rattle.std.specs.Prelude.{ℕ, zero, suc, ◌+◌, ◌-◌, ◌==◌, nat_lt, nat_le, max, Bool, true, false, not, cond, ◌&&◌, ◌||◌, List, [], ◌∷◌, ◌++◌, length, take, drop, filter, map, Option, Some, None, is_some, unwrap_or, Result, Ok, Err}
 use Rattle.std.specs.Option.{option_map, option_map_or, option_and_then}
 use Rattle.std.specs.List.{list_any, count_by}
 use Rattle.moka_hist.specs.Finite.{put_at, put_key, load_eq}
@@ -100,6 +100,13 @@ free_id registered ids number (suc left) =
     (free_id registered ids (suc number) left)
     (Some number)
 
+-- a registered predicate by its id and moment, and whether it goes by these
+abbrev pub named_of : Registered → ℕ × ℕ
+named_of r = (r.id, r.moment)
+
+abbrev pub is_named : ℕ × ℕ → Registered → Bool
+is_named named r = r.id == named.0 && r.moment == named.1
+
 -- how a load with this owner stands for a call that comes
 abbrev pub claim_of : Option ℕ → Claim
 claim_of None = claim.Owner
@@ -122,6 +129,17 @@ module _ {K V E : Type 0} where
   -- nobody holds the key's lock, or this call holds it
   abbrev pub is_unlocked_for : DeskPart K V E → ℕ → K → Bool
   is_unlocked_for w call key = option_map_or (λ holder. holder == call) (w.locks key) true
+
+  -- the call has taken a moment at or before this one, for a write that isn't decided yet
+  abbrev pub is_pending_by : DeskPart K V E → ℕ → ℕ → Bool
+  is_pending_by w moment call =
+      option_map_or (λ taken. nat_le taken moment) (pending_of w call) false
+
+  -- so has some call up to this number
+  abbrev pub some_pending_by : DeskPart K V E → ℕ → ℕ → Bool
+  some_pending_by w moment zero = is_pending_by w moment 0
+  some_pending_by w moment (suc call) =
+      is_pending_by w moment (suc call) || some_pending_by w moment call
 
   -- the keys that are locked but for that whose lock the call holds
   abbrev pub locks_without : DeskPart K V E → ℕ → K → Option ℕ
@@ -324,6 +342,30 @@ module _ {K V E : Type 0} where
     drawn = drawn_by w w.rules.closures (next_free w);
   }
 
+  -- the predicate may leave once it hides no record: its moment is past, and no write is to come
+  -- that it would hide
+  abbrev pub is_candidate : DeskPart K V E → Registered → Bool
+  is_candidate w r = nat_lt r.moment w.clock && not (some_pending_by w r.moment w.last)
+
+  -- the predicates that may leave, by id and moment, oldest first
+  abbrev pub candidates : DeskPart K V E → List (ℕ × ℕ)
+  candidates w = map named_of (filter (is_candidate w) w.registered)
+
+  -- the predicate that is registered under this id since this moment hides the record
+  abbrev pub does_strike : DeskPart K V E → K → Stored V → ℕ × ℕ → Bool
+  does_strike w key stored named =
+      list_any (λ r. is_named named r && does_hit w key stored r) w.registered
+
+  -- those of these predicates that don't
+  abbrev pub struck : DeskPart K V E → List (ℕ × ℕ) → K → Stored V → List (ℕ × ℕ)
+  struck w ids key stored = filter (λ named. not (does_strike w key stored named)) ids
+
+  -- these predicates leave; one that was registered anew under such an id stays
+  abbrev pub retired : DeskPart K V E → List (ℕ × ℕ) → DeskPart K V E
+  retired w ids = record w {
+    registered = filter (λ r. not (list_any (λ named. is_named named r) ids)) w.registered;
+  }
+
   -- the call owns the load where nobody does, and else waits for its owner
   abbrev pub claimed : (K → K → Bool) → DeskPart K V E → ℕ → Load K → Option ℕ → DeskPart K V E
   claimed eq w call load None = record w {
@@ -397,6 +439,9 @@ module _ {K V E : Type 0} where
   finds w (visit.EndTurn call) = found.EndTurn
   finds w visit.InvalidateAll = found.InvalidateAll
   finds w (visit.Register test) = found.Register (registering w)
+  finds w visit.Candidates = found.Candidates (candidates w)
+  finds w (visit.Strike ids key stored) = found.Strike (struck w ids key stored)
+  finds w (visit.Retire ids) = found.Retire
 
   -- what it changes
   abbrev pub makes : (K → K → Bool) → DeskPart K V E → Visit K V E → DeskPart K V E
@@ -428,3 +473,6 @@ module _ {K V E : Type 0} where
   makes eq w (visit.EndTurn call) = ended_turn w
   makes eq w visit.InvalidateAll = invalidated_all w
   makes eq w (visit.Register test) = registered_with w test
+  makes eq w visit.Candidates = w
+  makes eq w (visit.Strike ids key stored) = w
+  makes eq w (visit.Retire ids) = retired w ids

@@ -1,5 +1,5 @@
 -- Walking over the records.
-use Rattle.std.specs.Prelude.{true, false, List, ◌∷◌, ◌++◌, map}
+use Rattle.std.specs.Prelude.{ℕ, true, false, List, ◌∷◌, ◌++◌, map, Option, Some, None}
 use Rattle.moka_hist.specs.State.{Call}
 use Rattle.moka_hist.specs.Plan.{Item}
 use Rattle.moka_hist.specs.Plan as plan
@@ -19,12 +19,18 @@ module _ {K V E : Type 0} where
   after_list c rest (turn.Decided table.None) = waits c
   after_list c rest (turn.Decided (table.Some there found)) = waits c
 
-  -- a record that is found is judged, and one that has left is passed over
+  -- what is done with a record that is found: it is judged, or the predicates are struck that hide
+  -- it, where the call carries some
+  abbrev pub judging : Option (List (ℕ × ℕ)) → K → Stored V → Item K V E
+  judging None there found = plan.Scan there found
+  judging (Some ids) there found = plan.Strike there found
+
+  -- a key whose record has left is passed over
   abbrev pub after_find : Call K V E → List (Item K V E) → TableTurn K V → Next K V E
   after_find c rest turn.Going = stays c
   after_find c rest (turn.Decided table.None) = goes c rest
   after_find c rest (turn.Decided (table.Some there found)) =
-      goes c (plan.Scan there found ∷ rest)
+      goes c (judging c.carried there found ∷ rest)
   after_find c rest (turn.Decided (table.Keys keys)) = waits c
 
   -- a visible record is given, and another is passed over

@@ -30,6 +30,9 @@ pub enum Start<K, V> {
     /// The predicate of this number is registered, and hides each record on which it holds, but for
     /// those that are written later.
     InvalidateIf { test: u64 },
+    /// Maintenance: what dropped calls left is posted, the log is applied, and predicates go that
+    /// hide no record any more.
+    Pending,
     /// A walk: gives each record that is visible as the walk comes to it, part by part of the table.
     Iter,
 }

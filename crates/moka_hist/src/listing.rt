@@ -1,9 +1,10 @@
 //! A list that is handed out to be read.
 
-ghost use Rattle.std.specs.Prelude.{◌≡◌, ◌↔◌, IsTrue, [], length, slice_get};
+ghost use Rattle.std.specs.Prelude.{◌≡◌, ◌↔◌, IfOk, IsTrue, [], length, slice_get};
 ghost use Rattle.std.specs.Option.{option_copied};
 ghost use Rattle.std.specs.Slice.Iter.{iter_rest};
 
+use std::alloc::AllocError;
 use std::marker::Model;
 use std::slice::Iter;
 
@@ -70,5 +71,15 @@ impl<T> Listing<T> {
         ensures { iter_rest result ≡ self.now }
     {
         self.items.iter()
+    }
+}
+
+impl<T: Copy> Listing<T> {
+    /// Copies the items into a new vector.
+    pub fn to_vec(&self) -> Result<Vec<T>, AllocError>
+        ensures { IfOk result (λ items. items.items ≡ self.now) }
+    {
+        let alloc = *self.items.allocator();
+        Vec::from_slice(alloc, &self.items)
     }
 }

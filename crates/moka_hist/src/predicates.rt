@@ -22,5 +22,8 @@ pub enum PredicateError {
     Memory,
 }
 
+/// Predicates, by id and the moment at which each was registered.
+pub type IdList = Listing<(u128, u64)>;
+
 /// The number of each registered test, with the moment at which it was registered; oldest first.
 pub type TestList = Listing<(u64, u64)>;

@@ -1,6 +1,6 @@
 //! The replies to events.
 
-use crate::{Cause, CompResult};
+use crate::{Cause, CompResult, Id};
 
 /// What a call asks of its caller.
 #[derive(Clone, PartialEq, Debug, Drop)]
@@ -41,7 +41,7 @@ pub enum Answer<K, V, E> {
     /// A walk has given all its records.
     End,
     /// The predicate was registered under this id.
-    Id(u128),
+    Id(Id),
     /// The cache was built without invalidation closures, so no predicate was registered.
     ClosuresDisabled,
     /// Each of the next 1000 ids was registered already, so no predicate was registered.

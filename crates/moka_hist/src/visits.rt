@@ -1,6 +1,6 @@
 //! The visits of the desk that calls make, and what they find.
 
-use crate::{Cause, Kind, Owed, PredicateError, Stored, Told, Write};
+use crate::{Cause, Id, IdList, Kind, Owed, PredicateError, Stored, Told, Write};
 
 /// How a load stands for a call that asks: it is the owner now, or an earlier call is.
 #[derive(Clone, Copy, PartialEq, Eq, Debug)]
@@ -148,6 +148,19 @@ pub enum Visit<K, V, E> {
     Register {
         test: u64,
     },
+    /// Looks which predicates may leave: those whose moment is past, and before that of each write
+    /// that isn't decided yet.
+    Candidates,
+    /// Looks which of these predicates hide the record.
+    Strike {
+        ids: IdList,
+        key: K,
+        stored: Stored<V>,
+    },
+    /// Lets these predicates go. One that was registered anew under such an id stays.
+    Retire {
+        ids: IdList,
+    },
 }
 
 /// What the visit of the same name finds.
@@ -176,5 +189,9 @@ pub enum Found<V, E> {
     EndTurn,
     InvalidateAll,
     /// The id, or why none is registered; want of memory is the visit's own.
-    Register(Result<u128, PredicateError>),
+    Register(Result<Id, PredicateError>),
+    Candidates(IdList),
+    /// Those of the predicates that don't hide the record.
+    Strike(IdList),
+    Retire,
 }

@@ -46,15 +46,15 @@ module _ {K V E : Type 0} where
     pub access : access_of n c ≡ step.On_desk made
     pub next : next_of n c (got.Table table.Going) ≡ waits c
 
-  stays_or_parks : (n : ℕ) (r : Rules) (m : Mode) (items : List (Item K V E)) (aborts : ℕ)
-      → let c : Call K V E = record { rules = r; mode = m; plan = items; aborts = aborts } in Stays n c ⊎ Parks n c
-  stays_or_parks n r m (plan.Get aim key ∷ rest) aborts = inl (record { operation = op.Get key; access = refl; next = refl })
-  stays_or_parks n r m (plan.Write key value moment ∷ rest) aborts = inl (record { operation = _; access = refl; next = refl })
-  stays_or_parks n r m (plan.Out removal key ∷ rest) aborts = inl (record { operation = _; access = refl; next = refl })
-  stays_or_parks n r m (plan.List_keys part ∷ rest) aborts = inl (record { operation = op.Keys part; access = refl; next = refl })
-  stays_or_parks n r m (plan.Find key ∷ rest) aborts = inl (record { operation = op.Get key; access = refl; next = refl })
-  stays_or_parks n r m [] aborts = inr (record { made = _; access = refl; next = refl })
-  stays_or_parks n r m (_ ∷ rest) aborts = inr (record { made = _; access = refl; next = refl })
+  stays_or_parks : (n : ℕ) (r : Rules) (m : Mode) (items : List (Item K V E)) (aborts : ℕ) (ids : Option (List (ℕ × ℕ)))
+      → let c : Call K V E = record { rules = r; mode = m; plan = items; aborts = aborts; carried = ids } in Stays n c ⊎ Parks n c
+  stays_or_parks n r m (plan.Get aim key ∷ rest) aborts ids = inl (record { operation = op.Get key; access = refl; next = refl })
+  stays_or_parks n r m (plan.Write key value moment ∷ rest) aborts ids = inl (record { operation = _; access = refl; next = refl })
+  stays_or_parks n r m (plan.Out removal key ∷ rest) aborts ids = inl (record { operation = _; access = refl; next = refl })
+  stays_or_parks n r m (plan.List_keys part ∷ rest) aborts ids = inl (record { operation = op.Keys part; access = refl; next = refl })
+  stays_or_parks n r m (plan.Find key ∷ rest) aborts ids = inl (record { operation = op.Get key; access = refl; next = refl })
+  stays_or_parks n r m [] aborts ids = inr (record { made = _; access = refl; next = refl })
+  stays_or_parks n r m (_ ∷ rest) aborts ids = inr (record { made = _; access = refl; next = refl })
 
   some_same : (c d : Call K V E) → Some c ≡ Some d → c ≡ d
   some_same c d e = cc
@@ -114,4 +114,4 @@ module _ {K V E : Type 0} where
   still_on after old new (got.Table (table.Decided answer)) t number began is_after next =
       still_none after new began (is_after ∙ ends_begun (access_at old) (got.Table (table.Decided answer)) refl)
   still_on after old new (got.Table table.Going) t number began is_after next =
-      after_going after old new t number began is_after next (stays_or_parks old.call old.rules old.mode (call_of old).plan old.aborts)
+      after_going after old new t number began is_after next (stays_or_parks old.call old.rules old.mode (call_of old).plan old.aborts (call_of old).carried)

@@ -6,6 +6,10 @@ pub mod AtPoint
 pub mod Going
 pub mod Told
 pub mod Walks
+pub mod Leaving
+pub mod Serving
+pub mod Stepping
+pub mod Maintained
 pub mod Lists
 pub mod Near
 pub mod Still

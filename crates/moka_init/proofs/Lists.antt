@@ -1,7 +1,8 @@
 -- How many lists a call has still to make.
-use Rattle.std.proofs.Common.{◌≡◌, ℕ, ◌+◌, ◌==◌, ◌≤◌, Bool, true, false, cond, List, [], ◌∷◌, ◌++◌, map, Option, Some, None, refl, arith}
+use Rattle.std.proofs.Common.{◌≡◌, ℕ, zero, suc, ◌+◌, ◌==◌, ◌<◌, ◌≤◌, Bool, true, false, cond, List, [], ◌∷◌, ◌++◌, map, Option, Some, None, refl, ap, arith}
 use Rattle.moka_hist.specs.State.{Call}
-use Rattle.moka_hist.specs.Plan.{Item, Aim, Change, Removal, is_disabled, loaded, load_rest, put, take_out, under_lock}
+use Rattle.moka_hist.specs.Maintenance.{after_candidates, after_retire, after_strike, carrying}
+use Rattle.moka_hist.specs.Plan.{Item, Aim, Change, Removal, is_disabled, lists_from, loaded, load_rest, put, take_out, under_lock}
 use Rattle.moka_hist.specs.Plan as plan
 use Rattle.moka_hist.specs.Entries.{put_answer}
 use Rattle.moka_hist.specs.Next.{Next, answers, goes}
@@ -11,9 +12,9 @@ use Rattle.moka_hist.specs.Loading.{retries, owner_rest, after_own, after_abort,
 use Rattle.moka_hist.specs.Computing.{compute_rest, report_rest, put_told, end_compute, after_own_key, after_own_alone, after_read_key, after_ask_op, after_told_op}
 use Rattle.moka_hist.specs.Listening.{after_lock, after_unlock, after_notice, after_hearing}
 use Rattle.moka_hist.specs.Invalidating.{after_invalidate_all, after_register}
-use Rattle.moka_hist.specs.Walking.{after_list, after_find, after_scan}
+use Rattle.moka_hist.specs.Walking.{after_list, after_find, after_scan, judging}
 use Rattle.moka_hist.specs.Writing.{nothing_answer, nothing_rest, old_stamp, once_told, removed_answer, removed_rest, said, after_moment, after_write, after_out, after_idle}
-use Rattle.moka_hist.specs.Step.{after_table, after_visit, next_of}
+use Rattle.moka_hist.specs.Step.{access_of, after_table, after_visit, next_of}
 use Rattle.moka_hist.specs.declared.accesses.Got.{Got}
 use Rattle.moka_hist.specs.declared.accesses.Got.TheVariants as got
 use Rattle.moka_hist.specs.declared.events.Op.TheVariants as op
@@ -36,8 +37,8 @@ use Rattle.moka_hist.specs.declared.visits.Found.{Found}
 use Rattle.moka_hist.specs.declared.visits.Found.TheVariants as found
 use Rattle.moka_hist.specs.declared.visits.Settled.TheVariants as settled
 use Rattle.moka_hist.specs.declared.writes.Write.{Write}
-use Rattle.moka_init.specs.declared.points.Drained.{Drained}
-use Rattle.moka_init.specs.declared.points.Drained.TheVariants as drained
+use Rattle.moka_bound.specs.Falling.{raised}
+use Rattle.moka_init.specs.declared.flow.Flow.{Flow}
 use Rattle.moka_init.specs.declared.points.Ending.{Ending}
 use Rattle.moka_init.specs.declared.points.Ending.TheVariants as ending
 use Rattle.moka_init.specs.declared.points.Locked.{Locked}
@@ -48,9 +49,7 @@ use Rattle.moka_init.specs.declared.points.Computing.TheVariants as computing
 use Rattle.moka_init.specs.declared.points.Listening.TheVariants as listening
 use Rattle.moka_init.specs.declared.points.Point.{Point}
 use Rattle.moka_init.specs.declared.points.Point.TheVariants as point
-use Rattle.moka_init.specs.declared.points.Posted.{Posted}
-use Rattle.moka_init.specs.declared.points.Posted.TheVariants as posted
-use Rattle.moka_init.specs.declared.points.PostStep.{PostStep}
+use Rattle.moka_init.specs.declared.points.Maintenance.TheVariants as maintenance
 use Rattle.moka_init.specs.declared.points.PostStep.TheVariants as step
 use Rattle.moka_init.specs.declared.points.Posting.TheVariants as posting
 use Rattle.moka_init.specs.declared.points.Put.{Put}
@@ -60,14 +59,18 @@ use Rattle.moka_init.specs.declared.points.Removing.TheVariants as removing
 use Rattle.moka_init.specs.declared.points.TakeOut.{TakeOut}
 use Rattle.moka_init.specs.declared.points.Then.{Then}
 use Rattle.moka_init.specs.declared.points.Then.TheVariants as thens
-use Rattle.moka_init.specs.declared.points.Uncopied.{Uncopied}
-use Rattle.moka_init.specs.declared.points.Uncopied.TheVariants as uncopied
 use Rattle.moka_init.specs.declared.points.Walk.TheVariants as walk
 use Rattle.moka_init.specs.declared.points.Writing.TheVariants as writing
-use Rattle.moka_init.specs.Grounds.{lists_in}
-use Rattle.moka_init.specs.PointPlan.{drained_rest, locked_rest, plan_at, posted_rest, posted_with, posting_plan, put_rest, says_nothing, settles}
+use Rattle.moka_init.specs.FlowPlan.{call_of}
+use Rattle.moka_init.specs.Grounds.{access_at, lists_in}
+use Rattle.moka_init.specs.PointPlan.{locked_rest, plan_at, put_rest, says_nothing, settles}
 
 -- ---- a step adds none
+
+-- as many as the parts that are listed
+lists_listed : (K V E : Type 0) (part parts : ℕ) → lists_in {K = K} {V = V} {E = E} (lists_from part parts (plan.Retire ∷ [])) ≡ parts
+lists_listed K V E part zero = refl
+lists_listed K V E part (suc parts) = ap suc (lists_listed K V E (part + 1) parts)
 
 module _ {K V E : Type 0} where
   -- how many are left to a call that goes on, if it does
@@ -89,6 +92,11 @@ module _ {K V E : Type 0} where
   goes_few b c (plan.Reply a ∷ []) h = omega arith
   goes_few b c (plan.Reply a ∷ x ∷ rest) h = h
   goes_few b c (item ∷ rest) h = h
+
+  -- how many lists an item is followed by that the plan doesn't have yet
+  abbrev lists_of : Item K V E → ℕ
+  lists_of (plan.Candidates parts) = parts
+  lists_of _ = 0
 
   module _ (b : ℕ) (c : Call K V E) (was : lists_in c.plan ≤ b) where
     end_few : (removal : Removal K) (a : Answer K V E) → lists_in (said removal a) ≡ 0
@@ -232,10 +240,22 @@ module _ {K V E : Type 0} where
       scan_few there stored (found.Scan false) = goes_few b c rest less
       scan_few there stored _ = was
 
+      strike_few : (f : Found V E) → Few b (after_strike c rest f)
+      strike_few (found.Strike left) = goes_few b (carrying c left) rest less
+      strike_few _ = was
+
+      retire_few : (f : Found V E) → Few b (after_retire c f)
+      retire_few found.Retire = omega arith
+      retire_few _ = was
+
       find_few : (t : TableTurn K V) → Few b (after_find c rest t)
       find_few table.Going = was
       find_few (table.Decided table_answer.None) = goes_few b c rest less
-      find_few (table.Decided (table_answer.Some there stored)) = less
+      find_few (table.Decided (table_answer.Some there stored)) = by c.carried
+        where
+          by : (ids : Option (List (ℕ × ℕ))) → Few b (goes c (judging ids there stored ∷ rest))
+          by None = less
+          by (Some ids) = less
       find_few (table.Decided (table_answer.Keys keys)) = was
 
       list_few : (t : TableTurn K V) → Few b (after_list c rest t)
@@ -244,6 +264,12 @@ module _ {K V E : Type 0} where
       list_few (table.Decided (table_answer.Some there stored)) = was
       list_few (table.Decided (table_answer.Keys keys)) =
           goes_few b c (map plan.Find keys ++ rest) (omega (arith, less, finds_none keys rest))
+
+    candidates_few : (parts : ℕ) → parts ≤ b → (f : Found V E) → Few b (after_candidates c parts f)
+    candidates_few parts all (found.Candidates []) = omega arith
+    candidates_few parts all (found.Candidates (id ∷ more)) =
+        goes_few b (carrying c (id ∷ more)) (lists_from 0 parts (plan.Retire ∷ [])) (omega (arith, all, lists_listed K V E 0 parts))
+    candidates_few parts all _ = was
 
     judge_few : (aim : Aim K V) (there : K) (stored : Stored V) (f : Found V E) → Few b (after_judge c aim there stored f)
     judge_few aim there stored (found.Judge true) = hits_few aim there stored.value
@@ -368,55 +394,63 @@ module _ {K V E : Type 0} where
       table_few n (plan.Find key) t = find_few rest less t
       table_few n _ t = was
 
-      visit_few : (item : Item K V E) (f : Found V E) → Few b (after_visit c item rest f)
-      visit_few plan.Drain f = drain_few rest less f
-      visit_few (plan.Ended number) f = hearing_few rest less f
-      visit_few (plan.Post write) f = post_few rest less write f
-      visit_few plan.Turn f = turn_few rest less f
-      visit_few plan.Apply f = apply_few rest less f
-      visit_few plan.End f = ends_few rest less f
-      visit_few (plan.Judge aim key stored) f = judge_few aim key stored f
-      visit_few (plan.Own sought) f = own_few sought f
-      visit_few (plan.Read sought) f = read_few sought f
-      visit_few (plan.Settle with) f = settle_few rest less f
-      visit_few (plan.Ask load) f = ask_few load f
-      visit_few (plan.Told load) f = told_few load f
-      visit_few (plan.Own_key compute) f = own_key_few compute f
-      visit_few (plan.Own_alone key) f = own_alone_few key f
-      visit_few (plan.Read_key compute) f = read_key_few compute f
-      visit_few (plan.Ask_op compute pair) f = ask_op_few compute pair f
-      visit_few (plan.Told_op compute pair) f = told_op_few compute pair f
-      visit_few (plan.Lock key) f = lock_few rest less f
-      visit_few (plan.Unlock wrote) f = unlock_few rest less f
-      visit_few (plan.Notice key old cause upsert) f = notice_few rest less key old f
-      visit_few plan.Heard f = hearing_few rest less f
-      visit_few (plan.Holds key stamp cause there stored) f = holds_few key stamp cause f
-      visit_few (plan.Moment change) f = moment_few rest less change f
-      visit_few plan.Idle f = idle_few rest less f
-      visit_few plan.Invalidate_all f = all_few rest less f
-      visit_few (plan.Register test) f = register_few rest less f
-      visit_few (plan.Scan there stored) f = scan_few rest less there stored f
-      visit_few (plan.Reply a) f = omega arith
-      visit_few _ f = was
+      visit_few : (item : Item K V E) (f : Found V E) → lists_of item ≤ b → Few b (after_visit c item rest f)
+      visit_few plan.Drain f all = drain_few rest less f
+      visit_few (plan.Ended number) f all = hearing_few rest less f
+      visit_few (plan.Post write) f all = post_few rest less write f
+      visit_few plan.Turn f all = turn_few rest less f
+      visit_few plan.Apply f all = apply_few rest less f
+      visit_few plan.End f all = ends_few rest less f
+      visit_few (plan.Judge aim key stored) f all = judge_few aim key stored f
+      visit_few (plan.Own sought) f all = own_few sought f
+      visit_few (plan.Read sought) f all = read_few sought f
+      visit_few (plan.Settle with) f all = settle_few rest less f
+      visit_few (plan.Ask load) f all = ask_few load f
+      visit_few (plan.Told load) f all = told_few load f
+      visit_few (plan.Own_key compute) f all = own_key_few compute f
+      visit_few (plan.Own_alone key) f all = own_alone_few key f
+      visit_few (plan.Read_key compute) f all = read_key_few compute f
+      visit_few (plan.Ask_op compute pair) f all = ask_op_few compute pair f
+      visit_few (plan.Told_op compute pair) f all = told_op_few compute pair f
+      visit_few (plan.Lock key) f all = lock_few rest less f
+      visit_few (plan.Unlock wrote) f all = unlock_few rest less f
+      visit_few (plan.Notice key old cause upsert) f all = notice_few rest less key old f
+      visit_few plan.Heard f all = hearing_few rest less f
+      visit_few (plan.Holds key stamp cause there stored) f all = holds_few key stamp cause f
+      visit_few (plan.Moment change) f all = moment_few rest less change f
+      visit_few plan.Idle f all = idle_few rest less f
+      visit_few plan.Invalidate_all f all = all_few rest less f
+      visit_few (plan.Register test) f all = register_few rest less f
+      visit_few (plan.Candidates parts) f all = candidates_few parts all f
+      visit_few (plan.Strike there stored) f all = strike_few rest less f
+      visit_few plan.Retire f all = retire_few rest less f
+      visit_few (plan.Scan there stored) f all = scan_few rest less there stored f
+      visit_few (plan.Reply a) f all = omega arith
+      visit_few _ f all = was
 
   -- as many lists as the rest of the plan are at most those of the plan
   rest_few : (item : Item K V E) (rest : List (Item K V E)) → lists_in rest ≤ lists_in (item ∷ rest)
   rest_few (plan.List_keys part) rest = omega arith
+  rest_few (plan.Candidates parts) rest = omega arith
   rest_few _ rest = omega arith
 
-  pub step_few : (n : ℕ) (r : Rules) (m : Mode) (items : List (Item K V E)) (aborts : ℕ) (given : Got K V E) →
-      Few (lists_in items) (next_of n (record { rules = r; mode = m; plan = items; aborts = aborts }) given)
-  step_few n r m [] aborts given = omega arith
-  step_few n r m (item ∷ rest) aborts (got.Table t) =
-      table_few (lists_in (item ∷ rest)) (record { rules = r; mode = m; plan = item ∷ rest; aborts = aborts }) (omega arith) rest (rest_few item rest) n item t
-  step_few n r m (item ∷ rest) aborts (got.Desk f) =
-      visit_few (lists_in (item ∷ rest)) (record { rules = r; mode = m; plan = item ∷ rest; aborts = aborts }) (omega arith) rest (rest_few item rest) item f
+  of_few : (item : Item K V E) (rest : List (Item K V E)) → lists_of item ≤ lists_in (item ∷ rest)
+  of_few (plan.Candidates parts) rest = omega arith
+  of_few _ rest = omega arith
+
+  pub step_few : (n : ℕ) (r : Rules) (m : Mode) (items : List (Item K V E)) (aborts : ℕ) (ids : Option (List (ℕ × ℕ))) (given : Got K V E) →
+      Few (lists_in items) (next_of n (record { rules = r; mode = m; plan = items; aborts = aborts; carried = ids }) given)
+  step_few n r m [] aborts ids given = omega arith
+  step_few n r m (item ∷ rest) aborts ids (got.Table t) =
+      table_few (lists_in (item ∷ rest)) (record { rules = r; mode = m; plan = item ∷ rest; aborts = aborts; carried = ids }) (omega arith) rest (rest_few item rest) n item t
+  step_few n r m (item ∷ rest) aborts ids (got.Desk f) =
+      visit_few (lists_in (item ∷ rest)) (record { rules = r; mode = m; plan = item ∷ rest; aborts = aborts; carried = ids }) (omega arith) rest (rest_few item rest) item f (of_few item rest)
 
   -- one fewer after a list that gave keys
   pub listed_fewer : (c : Call K V E) (rest : List (Item K V E)) (keys : List K) → Few (lists_in rest) (after_list c rest (table.Decided (table_answer.Keys keys)))
   listed_fewer c rest keys = goes_few (lists_in rest) c (map plan.Find keys ++ rest) (omega (arith, finds_none keys rest))
 
--- ---- a call that doesn't walk makes none
+-- ---- what follows a write, an end or nothing found makes none
 
 module _ (K V E : Type 0) where
   settles_none : (e : Ending V E) → lists_in (settles {K = K} e) ≡ 0
@@ -447,50 +481,62 @@ module _ (K V E : Type 0) where
   locked_none (locked.TakeOut t) = refl
   locked_none (locked.Find c) = refl
 
-  drained_none : (d : Drained K V) → lists_in {E = E} (drained_rest d) ≡ 0
-  drained_none (drained.Put p) = put_none p
-  drained_none (drained.Lock l) = locked_none l
-  drained_none _ = refl
+  -- ---- a call that may add a key has none to make
 
-  posted_none : (p : Posted K V) → lists_in {E = E} (posted_rest p) ≡ 0
-  posted_none (posted.Drain then) = drained_none then
-  posted_none _ = refl
+  -- only a write may add a key
+  only_writes : (n : ℕ) (c : Call K V E) (given : Got K V E) → 0 < raised (access_of n c) given →
+      (key : K) × (value : V) × (moment : ℕ) × (rest : List (Item K V E)) × (c.plan ≡ plan.Write key value moment ∷ rest)
+  only_writes n c given adds = by c.plan refl adds
+    where
+      by : (p : List (Item K V E)) → c.plan ≡ p → 0 < raised (access_of n (record c { plan = p })) given →
+          (key : K) × (value : V) × (moment : ℕ) × (rest : List (Item K V E)) × (c.plan ≡ plan.Write key value moment ∷ rest)
+      by (plan.Write key value moment ∷ rest) e more = (key, value, moment, rest, e)
+      by [] e more = absurd (omega (arith, more))
+      by (_ ∷ rest) e more = absurd (omega (arith, more))
 
-  uncopied_none : (u : Uncopied V) (key : K) (value : V) → lists_in {E = E} (posted_rest (posted_with u key value)) ≡ 0
-  uncopied_none uncopied.Found key value = refl
-  uncopied_none uncopied.Removed key value = refl
-  uncopied_none (uncopied.Put own replaced) key value = refl
+  write_alone : (p : Point K V E) (key : K) (value : V) (moment : ℕ) (rest : List (Item K V E)) → plan_at p ≡ plan.Write key value moment ∷ rest → lists_in (plan_at p) ≡ 0
+  write_alone (point.Writing (writing.Write q at)) key value moment rest e = put_none q
+  write_alone (point.Writing (writing.Moment q)) key value moment rest e = put_none q
+  write_alone (point.Posting (posting.Drain then)) key value moment rest e = absurd cc
+  write_alone (point.Posting (posting.Held step.Hear write then)) key value moment rest e = absurd cc
+  write_alone (point.Posting (posting.Held step.Unlock write then)) key value moment rest e = absurd cc
+  write_alone (point.Posting (posting.Held step.Post write then)) key value moment rest e = absurd cc
+  write_alone (point.Posting (posting.Held step.Turn write then)) key value moment rest e = absurd cc
+  write_alone (point.Posting (posting.Held step.Apply write then)) key value moment rest e = absurd cc
+  write_alone (point.Posting (posting.Held step.End write then)) key value moment rest e = absurd cc
+  write_alone (point.Looking (looking.Get l)) key value moment rest e = refl
+  write_alone (point.Looking (looking.Judge l there stored)) key value moment rest e = refl
+  write_alone (point.Loading (loading.Settle ends)) key value moment rest e = settles_none ends
+  write_alone (point.Loading _) key value moment rest e = refl
+  write_alone (point.Computing (computing.Own compute)) key value moment rest e = refl
+  write_alone (point.Computing (computing.OwnAlone there)) key value moment rest e = refl
+  write_alone (point.Computing (computing.Read compute)) key value moment rest e = refl
+  write_alone (point.Computing (computing.Ask compute found copy)) key value moment rest e = refl
+  write_alone (point.Computing (computing.Told compute found)) key value moment rest e = refl
+  write_alone (point.Computing (computing.Settle answer)) key value moment rest e = refl
+  write_alone (point.Removing (removing.Idle t)) key value moment rest e = says_none t
+  write_alone (point.Removing _) key value moment rest e = refl
+  write_alone (point.Listening (listening.Ended number write then)) key value moment rest e = absurd cc
+  write_alone (point.Listening (listening.Lock l)) key value moment rest e = locked_none l
+  write_alone (point.Listening (listening.Notice there old cause upsert write then)) key value moment rest e = absurd cc
+  write_alone (point.Listening (listening.Uncopied there old write then)) key value moment rest e = absurd cc
+  write_alone (point.Listening (listening.Release t)) key value moment rest e = says_none t
+  write_alone (point.Walking (walk.List part)) key value moment rest e = absurd cc
+  write_alone (point.Walking (walk.Find there more)) key value moment rest e = absurd cc
+  write_alone (point.Walking (walk.Scan there stored more)) key value moment rest e = absurd cc
+  write_alone (point.Maintaining (maintenance.Turn parts)) key value moment rest e = absurd cc
+  write_alone (point.Maintaining (maintenance.Apply parts)) key value moment rest e = absurd cc
+  write_alone (point.Maintaining (maintenance.End parts)) key value moment rest e = absurd cc
+  write_alone (point.Maintaining (maintenance.Candidates parts)) key value moment rest e = absurd cc
+  write_alone (point.Maintaining (maintenance.List part ids)) key value moment rest e = absurd cc
+  write_alone (point.Maintaining (maintenance.Find there more ids)) key value moment rest e = absurd cc
+  write_alone (point.Maintaining (maintenance.Strike there stored more ids)) key value moment rest e = absurd cc
+  write_alone (point.Maintaining (maintenance.Retire ids)) key value moment rest e = absurd cc
+  write_alone point.InvalidatingAll key value moment rest e = refl
+  write_alone (point.Registering test) key value moment rest e = refl
+  write_alone (point.Answering a) key value moment rest e = refl
+  write_alone point.Spent key value moment rest e = refl
 
-  held_none : (s : PostStep) (write : Write) (then : Posted K V) → lists_in {E = E} (posting_plan (posting.Held s write then)) ≡ 0
-  held_none step.Hear write then = posted_none then
-  held_none step.Unlock write then = posted_none then
-  held_none step.Post write then = posted_none then
-  held_none step.Turn write then = posted_none then
-  held_none step.Apply write then = posted_none then
-  held_none step.End write then = posted_none then
-
-  pub calm : (p : Point K V E) → plan.walks (plan_at p) ≡ false → lists_in (plan_at p) ≡ 0
-  calm (point.Posting (posting.Drain then)) e = drained_none then
-  calm (point.Posting (posting.Held s write then)) e = held_none s write then
-  calm (point.Looking (looking.Get l)) e = refl
-  calm (point.Looking (looking.Judge l key stored)) e = refl
-  calm (point.Loading (loading.Settle ends)) e = settles_none ends
-  calm (point.Loading _) e = refl
-  calm (point.Computing (computing.Own compute)) e = refl
-  calm (point.Computing _) e = refl
-  calm (point.Writing (writing.Moment p)) e = put_none p
-  calm (point.Writing (writing.Write p moment)) e = put_none p
-  calm (point.Removing (removing.Idle t)) e = says_none t
-  calm (point.Removing _) e = refl
-  calm (point.Listening (listening.Ended number write then)) e = drained_none then
-  calm (point.Listening (listening.Lock l)) e = locked_none l
-  calm (point.Listening (listening.Notice key old cause upsert write then)) e = posted_none then
-  calm (point.Listening (listening.Uncopied key old write then)) e = uncopied_none then key old.value
-  calm (point.Listening (listening.Release t)) e = says_none t
-  calm (point.Walking (walk.List part)) e = cc
-  calm (point.Walking (walk.Find key rest)) e = cc
-  calm (point.Walking (walk.Scan key stored rest)) e = cc
-  calm point.InvalidatingAll e = refl
-  calm (point.Registering test) e = refl
-  calm (point.Answering a) e = refl
-  calm point.Spent e = refl
+  pub adds_none : (flow : Flow K V E) (given : Got K V E) → 0 < raised (access_at flow) given → lists_in (call_of flow).plan ≡ 0
+  adds_none flow given adds =
+      let w = only_writes flow.call (call_of flow) given adds in write_alone flow.point w.0 w.1 w.2 w.3 w.4

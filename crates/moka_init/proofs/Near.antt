@@ -1,7 +1,7 @@
 -- A step that leaves a flow going lowers how many it may still make.
-use Rattle.std.proofs.Common.{◌≡◌, ℕ, ◌+◌, ◌*◌, ◌<◌, ◌≤◌, Bool, false, List, [], ◌∷◌, Option, Some, None, refl, sym, ap, subst, ◌∙◌, arith}
+use Rattle.std.proofs.Common.{◌≡◌, ℕ, zero, suc, ◌+◌, ◌*◌, ◌<◌, ◌≤◌, Bool, List, [], ◌∷◌, Option, Some, None, refl, sym, ap, subst, ◌∙◌, arith}
 use Rattle.moka_hist.specs.State.{Call, World}
-use Rattle.moka_hist.specs.Plan.{Item, walks}
+use Rattle.moka_hist.specs.Plan.{Item}
 use Rattle.moka_hist.specs.Plan as plan
 use Rattle.moka_hist.specs.Step.{Access, Gets, May, access_for, access_of, next_of}
 use Rattle.moka_hist.specs.Step as step
@@ -26,7 +26,7 @@ use Rattle.moka_init.specs.declared.flow.Flow.{Flow}
 use Rattle.moka_init.specs.FlowPlan.{call_of, next_in}
 use Rattle.moka_init.specs.Grounds.{Account, Accesses, access_at, lists_in, work_for}
 use Rattle.moka_init.proofs.Begun.{left_going}
-use Rattle.moka_init.proofs.Lists.{calm, left_lists, listed_fewer, step_few}
+use Rattle.moka_init.proofs.Lists.{adds_none, left_lists, listed_fewer, step_few}
 
 -- ---- how many keys a step's lists may still give
 
@@ -84,37 +84,42 @@ module _ {K V E : Type 0} (eq : K → K → Bool) where
       lists_nothing n w new o given gets (λ part e. free part (ap (λ (v : TableOp K V). step.On_table v) e))
   access_lists_nothing (step.On_desk made) n w new given gets free = desk_lists_nothing given n w new made gets
 
-  item_no_list : (item : Item K V E) (n part : ℕ) → ((p : ℕ) → item ≡ plan.List_keys p → ⊥) → access_for n item ≡ step.On_table (op.Keys part) → ⊥
-  item_no_list (plan.List_keys p) n part free e = free p refl
-  item_no_list _ n part free e = cc
+  item_no_list : (item : Item K V E) (n : ℕ) (ids : Option (List (ℕ × ℕ))) (part : ℕ) → ((p : ℕ) → item ≡ plan.List_keys p → ⊥) → access_for n ids item ≡ step.On_table (op.Keys part) → ⊥
+  item_no_list (plan.List_keys p) n ids part free e = free p refl
+  item_no_list _ n ids part free e = cc
 
   -- an item that lists nothing
-  item_lists_nothing : (item : Item K V E) (n : ℕ) (w new : World K V E) (given : Got K V E) → Gets eq n w (access_for n item) given new →
-      ((part : ℕ) → item ≡ plan.List_keys part → ⊥) → keys_in given ≡ 0
-  item_lists_nothing item n w new given gets free =
-      access_lists_nothing (access_for n item) n w new given gets (λ part e. item_no_list item n part free e)
+  item_lists_nothing : (item : Item K V E) (n : ℕ) (ids : Option (List (ℕ × ℕ))) (w new : World K V E) (given : Got K V E) →
+      Gets eq n w (access_for n ids item) given new → ((part : ℕ) → item ≡ plan.List_keys part → ⊥) → keys_in given ≡ 0
+  item_lists_nothing item n ids w new given gets free =
+      access_lists_nothing (access_for n ids item) n w new given gets (λ part e. item_no_list item n ids part free e)
+
+  -- it leaves as many lists as there were, or adds a key where there are none
+  item_shortens : (n : ℕ) (r : Rules) (m : Mode) (item : Item K V E) (rest : List (Item K V E)) (aborts : ℕ) (ids : Option (List (ℕ × ℕ))) (w new : World K V E)
+      (given : Got K V E) (most was : ℕ) → Gets eq n w (access_for n ids item) given new → most ≤ was + raised (access_for n ids item) given →
+      (0 < raised (access_for n ids item) given → lists_in (item ∷ rest) ≡ 0) → ((part : ℕ) → item ≡ plan.List_keys part → ⊥) →
+      left_lists (next_of n (record { rules = r; mode = m; plan = item ∷ rest; aborts = aborts; carried = ids }) given).left * most + keys_in given ≤ lists_in (item ∷ rest) * was
+  item_shortens n r m item rest aborts ids w new given most was gets more none free = by (raised (access_for n ids item) given) refl
+    where
+      by : (k : ℕ) → raised (access_for n ids item) given ≡ k →
+          left_lists (next_of n (record { rules = r; mode = m; plan = item ∷ rest; aborts = aborts; carried = ids }) given).left * most + keys_in given ≤ lists_in (item ∷ rest) * was
+      by zero flat = lists_kept _ _ most was _ (step_few n r m (item ∷ rest) aborts ids given) (omega (arith, more, flat)) (item_lists_nothing item n ids w new given gets free)
+      by (suc k) adds = lists_none _ _ most was _ (step_few n r m (item ∷ rest) aborts ids given) (none (omega (arith, adds))) (item_lists_nothing item n ids w new given gets free)
 
   -- the lists that are left may give as many keys less as this one gave
-  pub lists_shorten : (n : ℕ) (r : Rules) (m : Mode) (items : List (Item K V E)) (aborts : ℕ) (w new : World K V E) (given : Got K V E) (most was : ℕ) →
-      let c : Call K V E = record { rules = r; mode = m; plan = items; aborts = aborts } in
-      Gets eq n w (access_of n c) given new → most ≤ was + raised (access_of n c) given → keys_in given ≤ was → (walks items ≡ false → lists_in items ≡ 0) →
+  pub lists_shorten : (n : ℕ) (r : Rules) (m : Mode) (items : List (Item K V E)) (aborts : ℕ) (ids : Option (List (ℕ × ℕ))) (w new : World K V E) (given : Got K V E) (most was : ℕ) →
+      let c : Call K V E = record { rules = r; mode = m; plan = items; aborts = aborts; carried = ids } in
+      Gets eq n w (access_of n c) given new → most ≤ was + raised (access_of n c) given → keys_in given ≤ was → (0 < raised (access_of n c) given → lists_in items ≡ 0) →
       left_lists (next_of n c given).left * most + keys_in given ≤ lists_in items * was
-  lists_shorten n r m [] aborts w new given most was gets more few none =
-      lists_none _ 0 most was _ (step_few n r m [] aborts given) refl (desk_lists_nothing given n w new (visit.Clock n) gets)
-  lists_shorten n r m (plan.List_keys part ∷ rest) aborts w new (got.Table (table.Decided (answer.Keys keys))) most was gets more few none =
-      lists_less _ (lists_in rest) _ most was _ (listed_fewer (record { rules = r; mode = m; plan = plan.List_keys part ∷ rest; aborts = aborts }) rest keys)
+  lists_shorten n r m [] aborts ids w new given most was gets more few none =
+      lists_none _ 0 most was _ (step_few n r m [] aborts ids given) refl (desk_lists_nothing given n w new (visit.Clock n) gets)
+  lists_shorten n r m (plan.List_keys part ∷ rest) aborts ids w new (got.Table (table.Decided (answer.Keys keys))) most was gets more few none =
+      lists_less _ (lists_in rest) _ most was _ (listed_fewer (record { rules = r; mode = m; plan = plan.List_keys part ∷ rest; aborts = aborts; carried = ids }) rest keys)
       (omega arith) (omega (arith, more)) few
-  lists_shorten n r m (plan.List_keys part ∷ rest) aborts w new given most was gets more few none =
-      lists_kept _ _ most was _ (step_few n r m (plan.List_keys part ∷ rest) aborts given) (omega (arith, more)) refl
-  lists_shorten n r m (plan.Find key ∷ rest) aborts w new given most was gets more few none =
-      lists_kept _ _ most was _ (step_few n r m (plan.Find key ∷ rest) aborts given) (omega (arith, more))
-      (item_lists_nothing (plan.Find key) n w new given gets (λ part e. cc))
-  lists_shorten n r m (plan.Scan there found ∷ rest) aborts w new given most was gets more few none =
-      lists_kept _ _ most was _ (step_few n r m (plan.Scan there found ∷ rest) aborts given) (omega (arith, more))
-      (item_lists_nothing (plan.Scan there found) n w new given gets (λ part e. cc))
-  lists_shorten n r m (item ∷ rest) aborts w new given most was gets more few none =
-      lists_none _ _ most was _ (step_few n r m (item ∷ rest) aborts given) (none refl)
-      (item_lists_nothing item n w new given gets (λ part e. cc))
+  lists_shorten n r m (plan.List_keys part ∷ rest) aborts ids w new given most was gets more few none =
+      lists_kept _ _ most was _ (step_few n r m (plan.List_keys part ∷ rest) aborts ids given) (omega (arith, more)) refl
+  lists_shorten n r m (item ∷ rest) aborts ids w new given most was gets more few none =
+      item_shortens n r m item rest aborts ids w new given most was gets more none (λ part e. cc)
 
   -- ---- a step
 
@@ -128,7 +133,8 @@ module _ {K V E : Type 0} (eq : K → K → Bool) where
       let s = told.shortens 0 in
       let left : (next_of old.call (call_of old) given).left ≡ Some (call_of new) =
       ap (λ v. v.left) (sym next) ∙ ap (λ (u : Turn K V E). (next_in u new).left) going in
-      let all = lists_shorten old.call old.rules old.mode (call_of old).plan old.aborts w after given then.work.most before.work.most gets s.raises told.lists (calm K V E old.point) in
+      let all = lists_shorten old.call old.rules old.mode (call_of old).plan old.aborts (call_of old).carried w after given then.work.most before.work.most gets s.raises told.lists
+      (adds_none K V E old given) in
       record {
         within = s.within;
         raises = s.raises;
@@ -142,8 +148,8 @@ module _ {K V E : Type 0} (eq : K → K → Bool) where
       ahead (work_for then new) (call_of new) < ahead (work_for before old) (call_of old)
   near old new t w after given before then has_log may gets next going was is told =
       let turns : (next_of old.call (call_of old) given).turn ≡ turn.Going = ap (λ v. v.turn) (sym next) ∙ going in
-      let none : walks (call_of old).plan ≡ false → (work_for before old).keys ≡ 0 =
-      λ e. no_product _ before.work.most (calm K V E old.point e) in
+      let none : 0 < raised (access_at old) given → (work_for before old).keys ≡ 0 =
+      λ adds. no_product _ before.work.most (adds_none K V E old given adds) in
       let falls = going_falls eq old.call (call_of old) w after given (work_for before old) (work_for then new) old.few has_log none may gets
       (counts_for old.call w before old was) (counts_for old.call after then new is)
       (shortens_for old new t w after given before then gets next going told) turns in

@@ -1,6 +1,6 @@
 -- Where a fresh call stands, something is left to do, and nothing is needed twice.
 use Rattle.std.proofs.Common.{◌≡◌, ℕ, zero, suc, Bool, true, false, List, [], ◌∷◌, refl}
-use Rattle.moka_hist.specs.Plan.{Item, get_plan, insert_plan, is_disabled, iter_plan, load_plan, look, or_insert_plan, plan_of, seek, under_lock, walk_from}
+use Rattle.moka_hist.specs.Plan.{Item, get_plan, insert_plan, is_disabled, iter_plan, load_plan, look, or_insert_plan, pending_plan, plan_of, seek, under_lock, walk_from}
 use Rattle.moka_hist.specs.Plan as plan
 use Rattle.moka_hist.specs.declared.events.Start.{Start}
 use Rattle.moka_hist.specs.declared.events.Start.TheVariants as start
@@ -58,6 +58,11 @@ module _ (K V E : Type 0) where
       by : (disabled : Bool) → is_first (iter_plan disabled parts) ≡ true
       by true = refl
       by false = walk_first parts
+  first_plan parts rules start.Pending = by (is_disabled rules)
+    where
+      by : (disabled : Bool) → is_first (pending_plan disabled parts) ≡ true
+      by true = refl
+      by false = refl
   first_plan parts rules _ = refl
 
   first_over : (p : List (Item K V E)) → is_first p ≡ true → is_over p ≡ false

@@ -15,7 +15,7 @@ use Rattle.moka_hist.specs.declared.accesses.Turn.TheVariants as turn
 use Rattle.moka_hist.specs.declared.accesses.Got.{Got}
 use Rattle.moka_hist.specs.declared.accesses.Got.TheVariants as got
 use Rattle.moka_hist.specs.declared.tables.TableTurn.TheVariants as table
-use Rattle.moka_init.specs.PointPlan.{plan_at, is_copied_in}
+use Rattle.moka_init.specs.PointPlan.{carried_at, plan_at, is_copied_in}
 use Rattle.moka_init.specs.declared.points.Computing.{Computing}
 use Rattle.moka_init.specs.declared.points.Computing.TheVariants as computing
 use Rattle.moka_init.specs.declared.points.Point.{Point}
@@ -30,6 +30,7 @@ module _ {K V E : Type 0} where
         mode = flow.mode;
         plan = plan_at flow.point;
         aborts = flow.aborts;
+        carried = carried_at flow.point;
       }
 
   -- what the call of this number holds that has this to do: the write, and the notice that it hears
@@ -64,6 +65,11 @@ module _ {K V E : Type 0} where
   takes_told (plan.Told_op compute pair ∷ rest) = true
   takes_told _ = false
 
+  -- the plan's first item lets the predicates go that its call carries
+  abbrev pub retires_in : List (Item K V E) → Bool
+  retires_in (plan.Retire ∷ rest) = true
+  retires_in _ = false
+
   -- the visit that opens the notice of the flow's call, where that is due
   abbrev pub due_of : Flow K V E → Option (Visit K V E)
   due_of flow = opening flow.call (call_of flow).plan
@@ -72,12 +78,35 @@ module _ {K V E : Type 0} where
   -- the flow's call, with this plan
   abbrev pub standing : Flow K V E → List (Item K V E) → Call K V E
   standing flow items =
-      record { rules = flow.rules; mode = flow.mode; plan = items; aborts = flow.aborts }
+      record {
+        rules = flow.rules;
+        mode = flow.mode;
+        plan = items;
+        aborts = flow.aborts;
+        carried = None;
+      }
+
+  -- the same with the predicates that it carries, by id and moment, if it carries some
+  abbrev pub standing_with : Flow K V E → Option (List (ℕ × ℕ)) → List (Item K V E) → Call K V E
+  standing_with flow ids items =
+      record {
+        rules = flow.rules;
+        mode = flow.mode;
+        plan = items;
+        aborts = flow.aborts;
+        carried = ids;
+      }
 
   -- it goes on with this plan
   abbrev pub mid : Flow K V E → List (Item K V E) → Next K V E
   mid flow items = going_as
-      (record { rules = flow.rules; mode = mode.Mid; plan = items; aborts = flow.aborts })
+      (record {
+        rules = flow.rules;
+        mode = mode.Mid;
+        plan = items;
+        aborts = flow.aborts;
+        carried = None;
+      })
 
   -- the call that a turn leaves in the flow
   abbrev pub left_in : Turn K V E → Flow K V E → Option (Call K V E)
@@ -144,6 +173,7 @@ module _ {K V E : Type 0} where
   IsCopied (point.Removing p) = Unit {0}
   IsCopied (point.Listening p) = is_copied_in p ≡ true
   IsCopied (point.Walking p) = Unit {0}
+  IsCopied (point.Maintaining p) = Unit {0}
   IsCopied point.InvalidatingAll = Unit {0}
   IsCopied (point.Registering test) = Unit {0}
   IsCopied (point.Answering answer) = Unit {0}

@@ -1,5 +1,5 @@
 -- The form of an answer, which belongs to its access.
-use Rattle.std.specs.Prelude.{◌≡◌, ℕ, Bool, Option, Result}
+use Rattle.std.specs.Prelude.{◌≡◌, ℕ, Bool, List, Option, Result}
 use Rattle.moka_hist.specs.Step.{Access}
 use Rattle.moka_hist.specs.Step as step
 use Rattle.moka_hist.specs.declared.accesses.Got.{Got}
@@ -42,6 +42,9 @@ module _ {K V E : Type 0} where
   IsFoundBy visit.InvalidateAll f = f ≡ found.InvalidateAll
   IsFoundBy (visit.Register test) f =
       (registering : Result ℕ PredicateError) × (f ≡ found.Register registering)
+  IsFoundBy visit.Candidates f = (ids : List (ℕ × ℕ)) × (f ≡ found.Candidates ids)
+  IsFoundBy (visit.Strike ids key stored) f = (left : List (ℕ × ℕ)) × (f ≡ found.Strike left)
+  IsFoundBy (visit.Retire ids) f = f ≡ found.Retire
 
   -- a table operation gives a turn of the table, a visit what such a visit finds
   abbrev pub HasForm : Access K V E → Got K V E → Type 0

@@ -1,6 +1,6 @@
 -- What a flow stands on.
 use Rattle.std.specs.Prelude.{◌≡◌, ◌≤◌, ℕ, suc, ◌+◌, ◌*◌, Bool, true, false, List, [], ◌∷◌, ◌++◌, Option, Some, None}
-use Rattle.std.specs.Prelude.{MatchOption}
+use Rattle.std.specs.Prelude.{MatchBool, MatchOption}
 use Rattle.moka_hist.specs.State.{DeskPart, World}
 use Rattle.moka_hist.specs.Plan.{Item}
 use Rattle.moka_hist.specs.Plan as plan
@@ -21,7 +21,8 @@ use Rattle.moka_hist.specs.declared.accesses.Got.{Got}
 use Rattle.moka_hist.specs.declared.accesses.Got.TheVariants as got
 use Rattle.moka_bound.specs.Ahead.{Work}
 use Rattle.moka_bound.specs.Falling.{Shortens, keys_in}
-use Rattle.moka_init.specs.FlowPlan.{call_of, standing}
+use Rattle.moka_init.specs.FlowPlan.{call_of, retires_in, standing, standing_with}
+use Rattle.moka_init.specs.PointPlan.{carried_at, plan_at}
 use Rattle.moka_init.specs.Forms.{HasForm}
 use Rattle.moka_init.specs.declared.flow.Flow.{Flow}
 
@@ -70,7 +71,7 @@ module _ {K V E : Type 0} where
   wanted (Some begun) (want.Begin operation) = None
   wanted (Some begun) (want.Desk made) = None
 
-  -- for such a visit a key or a value is copied
+  -- for such a visit a key, a value or a list of predicates is copied; those that leave are lent
   abbrev pub VisitTakesCopies : Visit K V E → Type 0
   VisitTakesCopies (visit.Clock n) = ⊥
   VisitTakesCopies (visit.TakeOwed n) = ⊥
@@ -94,6 +95,9 @@ module _ {K V E : Type 0} where
   VisitTakesCopies (visit.EndTurn n) = ⊥
   VisitTakesCopies visit.InvalidateAll = ⊥
   VisitTakesCopies (visit.Register test) = ⊥
+  VisitTakesCopies visit.Candidates = ⊥
+  VisitTakesCopies (visit.Strike ids key stored) = Unit {0}
+  VisitTakesCopies (visit.Retire ids) = ⊥
 
   -- for such an access a key or a value is copied; one of the table may take them along
   abbrev pub TakesCopies : Access K V E → Type 0
@@ -102,8 +106,8 @@ module _ {K V E : Type 0} where
 
   -- Memory may be wanting for such a visit of the desk: it copies a key or a value, or writes down
   -- what is new; where the turn is another's, or the notice runs, it lists the call. Taking up what
-  -- is owed or told, freeing a lock, posting a write, applying the log and invalidating all need
-  -- none.
+  -- is owed or told, freeing a lock, posting a write, applying the log, invalidating all and letting
+  -- predicates go need none.
   abbrev pub VisitNeedsMemory : DeskPart K V E → Visit K V E → Type 0
   VisitNeedsMemory w (visit.Clock n) = ⊥
   VisitNeedsMemory w (visit.TakeOwed n) = ⊥
@@ -127,6 +131,9 @@ module _ {K V E : Type 0} where
   VisitNeedsMemory w (visit.EndTurn n) = ⊥
   VisitNeedsMemory w visit.InvalidateAll = ⊥
   VisitNeedsMemory w (visit.Register test) = w.rules.closures ≡ true
+  VisitNeedsMemory w visit.Candidates = Unit {0}
+  VisitNeedsMemory w (visit.Strike ids key stored) = Unit {0}
+  VisitNeedsMemory w (visit.Retire ids) = ⊥
 
   -- memory may be wanting for such an access in this world: it goes to the table, or is such a
   -- visit
@@ -153,12 +160,29 @@ module _ {K V E : Type 0} where
   abbrev pub access_from : Flow K V E → List (Item K V E) → Access K V E
   access_from flow items = access_of flow.call (standing flow items)
 
+  -- the same where it carries these predicates
+  abbrev pub access_with : Flow K V E → Option (List (ℕ × ℕ)) → List (Item K V E) → Access K V E
+  access_with flow ids items = access_of flow.call (standing_with flow ids items)
+
+  abbrev pub wish_with : Flow K V E → Option (List (ℕ × ℕ)) → List (Item K V E) → Want K V E
+  wish_with flow ids items = want_for flow.begun (access_with flow ids items)
+
   abbrev pub wish_for : Flow K V E → List (Item K V E) → Want K V E
   wish_for flow items = want_for flow.begun (access_from flow items)
 
   -- the access that the flow stands at
   abbrev pub access_at : Flow K V E → Access K V E
   access_at flow = access_of flow.call (call_of flow)
+
+  -- copies are made to tell the access that it needs to do this: those of the predicates that leave
+  -- are made where it is only told
+  abbrev pub CopiesWith : Flow K V E → Option (List (ℕ × ℕ)) → List (Item K V E) → Type 0
+  CopiesWith flow ids items =
+      MatchBool (retires_in items) (Unit {0}) (TakesCopies (access_with flow ids items))
+
+  -- copies are made to tell the access that the flow stands at
+  abbrev pub CopiesAt : Flow K V E → Type 0
+  CopiesAt flow = CopiesWith flow (carried_at flow.point) (plan_at flow.point)
 
   -- the access that the flow wants, as it wants it
   abbrev pub wish_of : Flow K V E → Want K V E
@@ -209,6 +233,7 @@ module _ {K V E : Type 0} where
   abbrev pub lists_in : List (Item K V E) → ℕ
   lists_in [] = 0
   lists_in (plan.List_keys part ∷ rest) = suc (lists_in rest)
+  lists_in (plan.Candidates parts ∷ rest) = parts + lists_in rest
   lists_in (item ∷ rest) = lists_in rest
 
   -- the work that is before the flow's call there: each list that it has still to make may give as

@@ -1,6 +1,6 @@
 -- What a call has still to do, by where it stands.
-use Rattle.std.specs.Prelude.{◌+◌, ◌-◌, Bool, true, false, List, [], ◌∷◌, ◌++◌, map, Some, None}
-use Rattle.moka_hist.specs.Plan.{Item, Aim, end_load, walk_from}
+use Rattle.std.specs.Prelude.{ℕ, ◌+◌, ◌-◌, Bool, true, false, List, [], ◌∷◌, ◌++◌, map, Option, Some, None}
+use Rattle.moka_hist.specs.Plan.{Item, Aim, end_load, lists_from, walk_from}
 use Rattle.moka_hist.specs.Plan as plan
 use Rattle.moka_hist.specs.Writing.{nothing_answer, said}
 use Rattle.moka_hist.specs.Entries.{entry, unchanged}
@@ -51,6 +51,8 @@ use Rattle.moka_init.specs.declared.points.Removing.{Removing}
 use Rattle.moka_init.specs.declared.points.Removing.TheVariants as removing
 use Rattle.moka_init.specs.declared.points.Listening.{Listening}
 use Rattle.moka_init.specs.declared.points.Listening.TheVariants as listening
+use Rattle.moka_init.specs.declared.points.Maintenance.{Maintenance}
+use Rattle.moka_init.specs.declared.points.Maintenance.TheVariants as maintenance
 use Rattle.moka_init.specs.declared.points.Part.{Part}
 use Rattle.moka_init.specs.declared.points.PartKeys.{PartKeys}
 use Rattle.moka_init.specs.declared.points.Walk.{Walk}
@@ -195,6 +197,8 @@ module _ {K V E : Type 0} where
   drained_rest (drained.Loaded value) = plan.Reply (answer.Loaded value true) ∷ []
   drained_rest (drained.Ask compute) = plan.Ask_op (compute_of compute) None ∷ []
   drained_rest (drained.StillNone key) = plan.Reply (unchanged key None) ∷ []
+  drained_rest (drained.Maintain parts) =
+      plan.Turn ∷ plan.Apply ∷ plan.End ∷ plan.Candidates parts ∷ []
 
   abbrev pub posted_rest : Posted K V → List (Item K V E)
   posted_rest (posted.Drain then) = plan.Drain ∷ drained_rest then
@@ -276,6 +280,29 @@ module _ {K V E : Type 0} where
   walking_plan (walk.Find key rest) = plan.Find key ∷ keys_rest rest
   walking_plan (walk.Scan key stored rest) = plan.Scan key stored ∷ keys_rest rest
 
+  -- the parts after this one are listed, and then predicates leave
+  abbrev pub later_to_retire : Part → List (Item K V E)
+  later_to_retire part =
+      lists_from (part.number + 1) (part.last - part.number) (plan.Retire ∷ [])
+
+  -- the keys that are left are looked up before that
+  abbrev pub keys_to_retire : PartKeys K → List (Item K V E)
+  keys_to_retire rest = map plan.Find rest.keys ++ later_to_retire rest.part
+
+  abbrev pub maintaining_plan : Maintenance K V → List (Item K V E)
+  maintaining_plan (maintenance.Turn parts) =
+      plan.Turn ∷ plan.Apply ∷ plan.End ∷ plan.Candidates parts ∷ []
+  maintaining_plan (maintenance.Apply parts) =
+      plan.Apply ∷ plan.End ∷ plan.Candidates parts ∷ []
+  maintaining_plan (maintenance.End parts) = plan.End ∷ plan.Candidates parts ∷ []
+  maintaining_plan (maintenance.Candidates parts) = plan.Candidates parts ∷ []
+  maintaining_plan (maintenance.List part ids) =
+      plan.List_keys part.number ∷ later_to_retire part
+  maintaining_plan (maintenance.Find key rest ids) = plan.Find key ∷ keys_to_retire rest
+  maintaining_plan (maintenance.Strike key stored rest ids) =
+      plan.Strike key stored ∷ keys_to_retire rest
+  maintaining_plan (maintenance.Retire ids) = plan.Retire ∷ []
+
   -- what a call that stands there has still to do
   abbrev pub plan_at : Point K V E → List (Item K V E)
   plan_at (point.Posting p) = posting_plan p
@@ -286,10 +313,31 @@ module _ {K V E : Type 0} where
   plan_at (point.Removing p) = removing_plan p
   plan_at (point.Listening p) = listening_plan p
   plan_at (point.Walking p) = walking_plan p
+  plan_at (point.Maintaining p) = maintaining_plan p
   plan_at point.InvalidatingAll = plan.Invalidate_all ∷ plan.Reply answer.Done ∷ []
   plan_at (point.Registering test) = plan.Register test ∷ []
   plan_at (point.Answering answer) = plan.Reply answer ∷ []
   plan_at point.Spent = []
+
+-- ---- what it carries
+
+module _ {K V : Type 0} where
+  -- the predicates that maintenance carries there, by id and moment, once some were chosen
+  abbrev pub carried_in : Maintenance K V → Option (List (ℕ × ℕ))
+  carried_in (maintenance.Turn parts) = None
+  carried_in (maintenance.Apply parts) = None
+  carried_in (maintenance.End parts) = None
+  carried_in (maintenance.Candidates parts) = None
+  carried_in (maintenance.List part ids) = Some ids
+  carried_in (maintenance.Find key rest ids) = Some ids
+  carried_in (maintenance.Strike key stored rest ids) = Some ids
+  carried_in (maintenance.Retire ids) = Some ids
+
+module _ {K V E : Type 0} where
+  -- no other call carries any
+  abbrev pub carried_at : Point K V E → Option (List (ℕ × ℕ))
+  carried_at (point.Maintaining p) = carried_in p
+  carried_at _ = None
 
 -- ---- whether what is needed twice was copied
 
@@ -321,6 +369,7 @@ module _ {K V E : Type 0} where
   is_copied (point.Removing p) = true
   is_copied (point.Listening p) = is_copied_in p
   is_copied (point.Walking p) = true
+  is_copied (point.Maintaining p) = true
   is_copied point.InvalidatingAll = true
   is_copied (point.Registering test) = true
   is_copied (point.Answering answer) = true

@@ -1,19 +1,21 @@
 //! What a call tells of itself: how far it is, what it holds, and the notice that is due.
-ghost use Rattle.std.specs.Prelude.{◌≡◌, Some, false, IfOk};
+ghost use Rattle.std.specs.Prelude.{◌≡◌, Some, None, false, IfOk, MatchOption};
 ghost use Rattle.moka_hist.specs.Step.{access_for, On_desk, replace_of};
 ghost use Rattle.moka_hist.specs.Plan as plan;
 ghost use Rattle.moka_hist.specs.Plan.{hearing};
 ghost use Rattle.std.specs.Option.{option_map};
 ghost use Rattle.moka_needs.specs.Reads.{kind_read};
 ghost use Rattle.moka_init.specs.PointPlan.{aim_of, posting_plan, listening_plan};
-ghost use Rattle.moka_init.specs.FlowPlan.{carries_in, opening, owed_in, takes_told, tested_in};
+ghost use Rattle.moka_init.specs.FlowPlan.{carries_in, opening, owed_in, retires_in, takes_told};
+ghost use Rattle.moka_init.specs.FlowPlan.{tested_in};
 
 use crate::copies::replace_of;
 use crate::flow::Flow;
 use crate::points::{
-    Computing, Listening, Loading, Look, Looking, Point, PostStep, Posted, Posting, Removing, Walk,
+    Computing, Listening, Loading, Look, Looking, Maintenance, Point, PostStep, Posted, Posting,
+    Removing, Walk,
 };
-use moka_hist::{Cause, Kind, Mode, Owed, Rules, Start, Stored, Visit, Write};
+use moka_hist::{Cause, IdList, Kind, Mode, Owed, Rules, Start, Stored, Visit, Write};
 use moka_values::Exact;
 use std::alloc::AllocError;
 
@@ -120,6 +122,27 @@ impl<K, V, E> Flow<K, V, E> {
         }
     }
 
+    /// Whether the call's next visit lets predicates go.
+    pub(crate) fn leaves(&self) -> bool
+        ensures { result ≡ retires_in (call_of self.now).plan }
+    {
+        match &self.point {
+            Point::Maintaining(Maintenance::Retire { .. }) => true,
+            _ => false,
+        }
+    }
+
+    /// The predicates that leave by the call's next visit, if it lets some go.
+    pub(crate) fn leaving(&self) -> Option<&IdList>
+        ensures { MatchOption result (retires_in (call_of self.now).plan ≡ false)
+            (λ ids. self.now.point ≡ Point.Maintaining (Maintenance.Retire ids.now)) }
+    {
+        match &self.point {
+            Point::Maintaining(Maintenance::Retire { ids }) => Some(ids),
+            _ => None,
+        }
+    }
+
     /// Whether the call has answered: nothing is left for it to do.
     pub fn has_answered(&self) -> bool
         ensures { result ≡ is_over (call_of self.now).plan }
@@ -145,6 +168,7 @@ impl<K, V, E> Flow<K, V, E> {
             Point::Listening(Listening::Notice { write, .. }) => Some(unheard(*write)),
             Point::Listening(Listening::Uncopied { write, .. }) => Some(unheard(*write)),
             Point::Walking(_) => None,
+            Point::Maintaining(_) => None,
             _ => None,
         }
     }
@@ -215,7 +239,7 @@ pub(crate) fn open_notice<K: Exact, V: Exact, E>(
     upsert: bool,
 ) -> Result<Visit<K, V, E>, AllocError>
     ensures { IfOk result (λ visit.
-        On_desk visit ≡ access_for call (plan.Notice key.now old.now cause upsert)) }
+        On_desk visit ≡ access_for call None (plan.Notice key.now old.now cause upsert)) }
 {
     let key = key.clone()?;
     let value = old.value.clone()?;

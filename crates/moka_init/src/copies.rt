@@ -1,5 +1,5 @@
 //! The accesses for which a key or a value is copied.
-ghost use Rattle.std.specs.Prelude.{◌≡◌, false, IfOk, OnErr};
+ghost use Rattle.std.specs.Prelude.{◌≡◌, false, None, IfOk, OnErr};
 ghost use Rattle.moka_hist.specs.Plan as plan;
 ghost use Rattle.moka_hist.specs.Step.{access_for, replace_of, want_for, takes_of, On_table};
 ghost use Rattle.moka_hist.specs.Writing.{stamp_asked};
@@ -9,7 +9,7 @@ ghost use Rattle.moka_init.specs.PointPlan.{removal_of, settled_of, takes_by};
 
 use crate::calls::open_notice;
 use crate::points::{Asks, Ending, Locked, Look, Put, Removal, TakeOut, Uncopied};
-use moka_hist::{Cause, Kind, Load, Settled, Stored, TableOp, Takes, Visit, Want};
+use moka_hist::{Cause, IdList, Kind, Load, Settled, Stored, TableOp, Takes, Visit, Want};
 use moka_values::Exact;
 use std::alloc::AllocError;
 
@@ -94,7 +94,7 @@ pub(crate) fn want_out<K: Exact, V, E>(
     out: &TakeOut<K>,
 ) -> Result<Want<K, V, E>, AllocError>
     ensures { IfOk result (λ want. want ≡ want_for begun
-        (access_for 0 (plan.Out (removal_of out.now) out.now.key))) }
+        (access_for 0 None (plan.Out (removal_of out.now) out.now.key))) }
 {
     if begun {
         return Ok(Want::Table);
@@ -166,6 +166,36 @@ pub(crate) fn want_scan<K: Exact, V: Exact, E>(
     let key = key.clone()?;
     let stored = stored.clone()?;
     Ok(Want::Desk(Visit::Scan { key, stored }))
+}
+
+/// Looks which of these predicates hide the record.
+pub(crate) fn want_strike<K: Exact, V: Exact, E>(
+    ids: &IdList,
+    key: &K,
+    stored: &Stored<V>,
+) -> Result<Want<K, V, E>, AllocError>
+    ensures { IfOk result (λ want. want ≡ Want.Desk (Visit.Strike ids.now key.now stored.now)) }
+{
+    let ids = ids_copy(ids)?;
+    let key = key.clone()?;
+    let stored = stored.clone()?;
+    Ok(Want::Desk(Visit::Strike { ids, key, stored }))
+}
+
+/// Lets these predicates leave.
+pub(crate) fn want_retire<K, V, E>(ids: &IdList) -> Result<Want<K, V, E>, AllocError>
+    ensures { IfOk result (λ want. want ≡ Want.Desk (Visit.Retire ids.now)) }
+{
+    let ids = ids_copy(ids)?;
+    Ok(Want::Desk(Visit::Retire { ids }))
+}
+
+// A copy of the predicates' ids and moments.
+fn ids_copy(ids: &IdList) -> Result<IdList, AllocError>
+    ensures { IfOk result (λ copy. copy ≡ ids.now) }
+{
+    let copy = ids.to_vec()?;
+    Ok(IdList::from_vec(copy))
 }
 
 /// The pair that was found, of which the ask gives out a copy.
@@ -267,7 +297,7 @@ pub(crate) fn want_write<K: Exact, V: Exact, E>(
     moment: u64,
 ) -> Result<Want<K, V, E>, AllocError>
     ensures { IfOk result (λ want. want
-        ≡ want_for begun (access_for call (plan.Write put.now.key put.now.value moment))) }
+        ≡ want_for begun (access_for call None (plan.Write put.now.key put.now.value moment))) }
 {
     if begun {
         return Ok(Want::Table);
@@ -314,7 +344,7 @@ pub(crate) fn want_notice<K: Exact, V: Exact, E>(
     upsert: bool,
 ) -> Result<Want<K, V, E>, AllocError>
     ensures { IfOk result (λ want. want
-        ≡ want_for false (access_for call (plan.Notice key.now old.now cause upsert))) }
+        ≡ want_for false (access_for call None (plan.Notice key.now old.now cause upsert))) }
 {
     let visit = open_notice(call, key, old, cause, upsert)?;
     Ok(Want::Desk(visit))

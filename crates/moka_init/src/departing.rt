@@ -12,9 +12,9 @@ ghost use Rattle.moka_init.specs.Grounds.{access_at};
 
 use crate::flow::Flow;
 use crate::points::{
-    Computing, Listening, Loading, Looking, Point, Posting, Removing, Walk, Writing,
+    Computing, Listening, Loading, Looking, Maintenance, Point, Posting, Removing, Walk, Writing,
 };
-use moka_hist::{Answer, Found, Got, PredicateError, TableTurn, Turn};
+use moka_hist::{Answer, Found, Got, Id, PredicateError, TableTurn, Turn};
 use std::mem;
 
 impl<K: Drop, V: Drop, E: Drop> Flow<K, V, E> {
@@ -25,6 +25,7 @@ impl<K: Drop, V: Drop, E: Drop> Flow<K, V, E> {
     ghost use Rattle.moka_init.specs.declared.points.Listening.{Listening};
     ghost use Rattle.moka_init.specs.declared.points.Loading.{Loading};
     ghost use Rattle.moka_init.specs.declared.points.Looking.{Looking};
+    ghost use Rattle.moka_init.specs.declared.points.Maintenance.{Maintenance};
     ghost use Rattle.moka_init.specs.declared.points.Posting.{Posting};
     ghost use Rattle.moka_init.specs.declared.points.Removing.{Removing};
     ghost use Rattle.moka_init.specs.declared.points.Walk.{Walk};
@@ -133,6 +134,20 @@ impl<K: Drop, V: Drop, E: Drop> Flow<K, V, E> {
     {
         match self.point_out() {
             Point::Walking(walk) => self.after_walking(walk, found),
+            _ => unreachable!(),
+        }
+    }
+
+    // After a visit, where the call stands at its maintenance.
+    pub(crate) fn maintaining_visited(&mut self, found: Found<V, E>) -> Turn<K, V, E>
+        requires there { (maintenance : Maintenance K V)
+            × (self.old.point ≡ Point.Maintaining maintenance) }
+        requires form { HasForm (access_at self.old) (Got.Desk found) }
+        ensures { GoesOn self.old (next_of self.old.call (call_of self.old) (Got.Desk found))
+            result self.new }
+    {
+        match self.point_out() {
+            Point::Maintaining(maintenance) => self.after_maintaining(maintenance, found),
             _ => unreachable!(),
         }
     }
@@ -272,10 +287,29 @@ impl<K: Drop, V: Drop, E: Drop> Flow<K, V, E> {
             _ => unreachable!(),
         }
     }
+
+    // After a step of a table operation, where the call stands at its maintenance.
+    pub(crate) fn maintaining_stepped(&mut self, turn: TableTurn<K, V>) -> Turn<K, V, E>
+        requires there { (maintenance : Maintenance K V)
+            × (self.old.point ≡ Point.Maintaining maintenance) }
+        requires form { HasForm (access_at self.old) (Got.Table turn) }
+        ensures { GoesOn self.old (next_of self.old.call (call_of self.old) (Got.Table turn))
+            result self.new }
+    {
+        match self.point_out() {
+            Point::Maintaining(Maintenance::List { part, ids }) => {
+                self.after_part(part, ids, turn)
+            }
+            Point::Maintaining(Maintenance::Find { key, rest, ids }) => {
+                self.after_key(key, rest, ids, turn)
+            }
+            _ => unreachable!(),
+        }
+    }
 }
 
 // What is answered of a predicate: the id under which it was registered, or why it wasn't.
-fn registering_answer<K, V, E>(registering: Result<u128, PredicateError>) -> Answer<K, V, E>
+fn registering_answer<K, V, E>(registering: Result<Id, PredicateError>) -> Answer<K, V, E>
     ensures { result ≡ registering_answer registering }
 {
     match registering {

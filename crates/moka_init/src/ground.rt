@@ -6,7 +6,7 @@ ghost use Rattle.moka_hist.specs.declared.accesses.Want.{Want};
 ghost use Rattle.moka_bound.specs.Falling.{Counts};
 ghost use Rattle.moka_init.specs.Grounds.{Account, Accesses, Gives, Lacks, OfWanted, MayWant};
 
-use moka_hist::{Got, Want};
+use moka_hist::{Got, IdList, Visit, Want};
 use moka_values::Exact;
 use std::alloc::AllocError;
 
@@ -45,6 +45,26 @@ pub trait Ground<K: Eq + Exact, V: Exact, E: Exact> {
             → stands self.new w) }
         ensures err_needs { OnErr result
             (OfWanted (account self.old) want (Lacks (stands self.old) needs)) };
+
+    /// Lets these predicates go, and makes no other access: it is the visit `Retire`, for which they
+    /// are lent, since that takes no memory. After want of memory nothing has changed. Precondition:
+    /// the visit fits.
+    fn retire(&mut self, ids: &IdList) -> Result<Got<K, V, E>, AllocError>
+        requires fits { fits self.old (Want.Desk (Visit.Retire ids.now)) }
+        // What it gives, and what is told then.
+        ensures gives { IfOk result (λ given. OfWanted (account self.old)
+            (Want.Desk (Visit.Retire ids.now)) (λ access.
+            Gives K.eq (account self.old).call (stands self.old) access given (stands self.new))) }
+        ensures tells { IfOk result (λ given. OfWanted (account self.old)
+            (Want.Desk (Visit.Retire ids.now)) (λ access.
+            Accesses (account self.old) access given (account self.new))) }
+        ensures keeps { keeps self.old self.new }
+        // Without memory.
+        ensures err { OnErr result (account self.new ≡ account self.old) }
+        ensures err_stands { OnErr result ((w : World K V E) → stands self.old w
+            → stands self.new w) }
+        ensures err_needs { OnErr result (OfWanted (account self.old)
+            (Want.Desk (Visit.Retire ids.now)) (Lacks (stands self.old) needs)) };
 
     /// What a world allows that it stands for fits.
     ghost allows: { (g : Self) (w : World K V E) (want : Want K V E) → stands g w

@@ -16,6 +16,7 @@ mod keys_left;
 mod listening;
 mod loading;
 mod looking;
+mod maintaining;
 mod needs;
 pub mod points;
 mod posting;

@@ -1,16 +1,16 @@
 //! What the next visit of a flow needs of the desk.
 ghost use Rattle.std.specs.Prelude.{◌≡◌, Some, true, IfOk, OnErr};
-ghost use Rattle.moka_init.specs.Grounds.{access_at, access_from};
+ghost use Rattle.moka_init.specs.Grounds.{access_at, access_from, access_with};
 ghost use Rattle.moka_init.specs.Needs.{is_claim, need_at};
 ghost use Rattle.moka_init.specs.PointPlan.{settled_of, posting_plan, looking_plan, loading_plan};
 ghost use Rattle.moka_init.specs.PointPlan.{computing_plan, writing_plan, removing_plan};
-ghost use Rattle.moka_init.specs.PointPlan.{listening_plan, walking_plan};
+ghost use Rattle.moka_init.specs.PointPlan.{carried_in, listening_plan, maintaining_plan, walking_plan};
 ghost use Rattle.moka_needs.specs.Needs.{ending_of};
 
 use crate::flow::Flow;
 use crate::points::{
-    Computing, Ending as Ends, Listening, Loading, Looking, Point, PostStep, Posted, Posting,
-    Removing, Walk, Writing,
+    Computing, Ending as Ends, Listening, Loading, Looking, Maintenance, Point, PostStep, Posted,
+    Posting, Removing, Walk, Writing,
 };
 use moka_hist::{Kind, Load, Write};
 use moka_needs::{Ending, Need};
@@ -34,6 +34,7 @@ impl<K: Exact, V, E> Flow<K, V, E> {
             Point::Removing(removing) => Ok(self.removing_need(removing)),
             Point::Listening(listening) => Ok(Some(self.listening_need(listening))),
             Point::Walking(walk) => Ok(self.walking_need(walk)),
+            Point::Maintaining(maintenance) => Ok(self.maintaining_need(maintenance)),
             Point::InvalidatingAll => Ok(Some(Need::InvalidateAll)),
             Point::Registering(_) => Ok(Some(Need::Register)),
             Point::Answering(_) => Ok(Some(Need::Clock)),
@@ -132,6 +133,22 @@ impl<K: Exact, V, E> Flow<K, V, E> {
             Walk::List(_) => None,
             Walk::Find { .. } => None,
             Walk::Scan { .. } => Some(Need::Scan),
+        }
+    }
+
+    fn maintaining_need(&self, maintenance: &Maintenance<K, V>) -> Option<Need<K>>
+        ensures { result ≡ need_at (access_with self.now (carried_in maintenance.now)
+            (maintaining_plan maintenance.now)) }
+    {
+        match maintenance {
+            Maintenance::Turn { .. } => Some(Need::TakeTurn),
+            Maintenance::Apply { .. } => Some(Need::ApplyOne),
+            Maintenance::End { .. } => Some(Need::EndTurn),
+            Maintenance::Candidates { .. } => Some(Need::Candidates),
+            Maintenance::List { .. } => None,
+            Maintenance::Find { .. } => None,
+            Maintenance::Strike { .. } => Some(Need::Strike),
+            Maintenance::Retire { .. } => Some(Need::Retire),
         }
     }
 }

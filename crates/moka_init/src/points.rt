@@ -5,7 +5,7 @@
 //! name all that lies in it. Nothing but a `Flow` makes or reads them.
 
 use crate::keys_left::KeysLeft;
-use moka_hist::{Answer, Cause, CompResult, Load, Sought, Stored, Write};
+use moka_hist::{Answer, Cause, CompResult, IdList, Load, Sought, Stored, Write};
 
 /// What the ask of a compute takes.
 #[derive(Clone, Copy)]
@@ -121,6 +121,8 @@ pub enum Drained<K, V> {
     Ask(KeyCompute<K>),
     /// That the key has no value is answered, since a disabled cache is not looked at.
     StillNone(K),
+    /// The log is applied, and predicates go that hide nothing any more; the table has so many parts.
+    Maintain { parts: usize },
 }
 
 /// What follows once a write is posted.
@@ -320,6 +322,43 @@ pub enum Walk<K, V> {
     },
 }
 
+/// Applying the log, and letting predicates go that hide no record any more. Those that may leave are
+/// chosen (`Candidates`); the keys of a part are listed, each is looked up, and those are struck that
+/// hide the record that was found. The later parts follow, and then those leave that are left.
+#[derive(Drop)]
+pub enum Maintenance<K, V> {
+    Turn {
+        parts: usize,
+    },
+    Apply {
+        parts: usize,
+    },
+    End {
+        parts: usize,
+    },
+    Candidates {
+        parts: usize,
+    },
+    List {
+        part: Part,
+        ids: IdList,
+    },
+    Find {
+        key: K,
+        rest: PartKeys<K>,
+        ids: IdList,
+    },
+    Strike {
+        key: K,
+        stored: Stored<V>,
+        rest: PartKeys<K>,
+        ids: IdList,
+    },
+    Retire {
+        ids: IdList,
+    },
+}
+
 /// Where a call stands.
 #[derive(Drop)]
 pub enum Point<K, V, E> {
@@ -331,6 +370,7 @@ pub enum Point<K, V, E> {
     Removing(Removing<K, V>),
     Listening(Listening<K, V>),
     Walking(Walk<K, V>),
+    Maintaining(Maintenance<K, V>),
     /// All records are invalidated, which is answered with that step.
     InvalidatingAll,
     /// Registers the predicate of this number.

@@ -13,8 +13,8 @@ ghost use Rattle.moka_init.specs.Forms.{HasForm, IsFoundBy};
 use crate::computing::unchanged;
 use crate::flow::Flow;
 use crate::points::{
-    Drained, Ending, Listening, Loading, Looking, Point, PostStep, Posted, Posting, Removing,
-    Writing,
+    Drained, Ending, Listening, Loading, Looking, Maintenance, Point, PostStep, Posted, Posting,
+    Removing, Writing,
 };
 use moka_hist::{Answer, Found, Got, Mode, Owed, Turn, Visit, Write};
 
@@ -123,6 +123,9 @@ impl<K: Drop, V: Drop, E: Drop> Flow<K, V, E> {
             Drained::Loaded(value) => self.answers(Answer::Loaded { value, fresh: true }),
             Drained::Ask(compute) => self.asks_with(compute, None),
             Drained::StillNone(key) => self.answers(unchanged(key, None)),
+            Drained::Maintain { parts } => self.goes(Point::Maintaining(Maintenance::Turn {
+                parts,
+            })),
         }
     }
 

@@ -1,13 +1,13 @@
 //! Taking a record out.
-ghost use Rattle.std.specs.Prelude.{◌≡◌, ◌==◌, true, [], ◌∷◌};
+ghost use Rattle.std.specs.Prelude.{◌≡◌, ◌==◌, true, None, [], ◌∷◌};
 ghost use Rattle.moka_hist.specs.Plan as plan;
 ghost use Rattle.moka_hist.specs.Looking.{after_get, after_holds, chosen_or_not, keeps};
 ghost use Rattle.moka_hist.specs.Step.{next_of, access_of};
 ghost use Rattle.moka_hist.specs.Writing.{after_moment, after_out, after_idle};
 ghost use Rattle.moka_hist.specs.Writing.{nothing_rest, removed_rest, removed_answer, said};
 ghost use Rattle.moka_hist.specs.Next.{goes};
-ghost use Rattle.moka_init.specs.PointPlan.{aim_at, finds, listening_plan, plan_at, says_nothing};
-ghost use Rattle.moka_init.specs.PointPlan.{removal_of, removing_plan, takes_out};
+ghost use Rattle.moka_init.specs.PointPlan.{aim_at, carried_at, finds, listening_plan, plan_at};
+ghost use Rattle.moka_init.specs.PointPlan.{removal_of, removing_plan, says_nothing, takes_out};
 ghost use Rattle.moka_init.specs.FlowPlan.{standing, mid, GoesOn};
 ghost use Rattle.moka_init.specs.Forms.{HasForm, IsFoundBy};
 
@@ -260,8 +260,9 @@ impl<K> Chosen<K> {
 impl<K: Drop, V: Drop, E: Drop> Point<K, V, E> {
     // The write is posted of a removal that took out a record of this value, and that is answered.
     fn removed(write: Write, out: TakeOut<K>, value: V) -> Self
-        ensures { plan_at result ≡ plan.Post write
+        ensures plan { plan_at result ≡ plan.Post write
             ∷ said (removal_of out) (removed_answer (removal_of out) value) }
+        ensures carries { carried_at result ≡ None }
     {
         let then = match out.removal {
             Removal::Invalidate => Posted::Done,

@@ -1,11 +1,12 @@
 //! Where a fresh call stands.
 
-ghost use Rattle.std.specs.Prelude.{◌≡◌, [], ◌∷◌};
+ghost use Rattle.std.specs.Prelude.{◌≡◌, [], ◌∷◌, None};
 ghost use Rattle.moka_hist.specs.Plan as plan;
 ghost use Rattle.moka_hist.specs.Plan.{is_disabled, get_plan, insert_plan, iter_plan, load_plan};
 ghost use Rattle.moka_hist.specs.Plan.{or_insert_plan, plan_of, put, seek, take_out, under_lock};
-ghost use Rattle.moka_hist.specs.Plan.{look, walk_from, To_evict};
-ghost use Rattle.moka_init.specs.PointPlan.{plan_at, put_rest, removal_at, removal_of, takes_by};
+ghost use Rattle.moka_hist.specs.Plan.{look, pending_plan, walk_from, To_evict};
+ghost use Rattle.moka_init.specs.PointPlan.{carried_at, plan_at, put_rest};
+ghost use Rattle.moka_init.specs.PointPlan.{removal_at, removal_of, takes_by};
 
 use crate::points::{
     Asks, Chosen, Computing, Drained, KeyCompute, Listening, Locked, Look, Part, Point, Posting,
@@ -26,7 +27,8 @@ pub(crate) fn is_disabled(rules: Rules) -> bool
 impl<K: Drop, V: Drop, E: Drop> Point<K, V, E> {
     /// Where a fresh call stands, in a cache whose table has so many parts.
     pub(crate) fn first(parts: usize, rules: Rules, start: Start<K, V>) -> Self
-        ensures { plan_at result ≡ plan_of parts rules start }
+        ensures plan { plan_at result ≡ plan_of parts rules start }
+        ensures carries { carried_at result ≡ None }
     {
         match start {
             Start::Get { key } => Point::get(is_disabled(rules), key),
@@ -47,12 +49,14 @@ impl<K: Drop, V: Drop, E: Drop> Point<K, V, E> {
             Start::InvalidateAll => Point::InvalidatingAll,
             Start::InvalidateIf { test } => Point::Registering(test),
             Start::Iter => Point::walk(is_disabled(rules), parts),
+            Start::Pending => Point::maintenance(is_disabled(rules), parts),
         }
     }
 
     // A disabled cache has no records.
     fn walk(disabled: bool, parts: usize) -> Self
-        ensures { plan_at result ≡ iter_plan disabled parts }
+        ensures plan { plan_at result ≡ iter_plan disabled parts }
+        ensures carries { carried_at result ≡ None }
     {
         if disabled {
             Point::Answering(Answer::End)
@@ -63,7 +67,8 @@ impl<K: Drop, V: Drop, E: Drop> Point<K, V, E> {
 
     // So many parts are listed.
     fn walk_over(parts: usize) -> Self
-        ensures { plan_at result ≡ walk_from 0 parts }
+        ensures plan { plan_at result ≡ walk_from 0 parts }
+        ensures carries { carried_at result ≡ None }
     {
         if parts == 0 {
             Point::Answering(Answer::End)
@@ -73,9 +78,22 @@ impl<K: Drop, V: Drop, E: Drop> Point<K, V, E> {
         }
     }
 
+    // A disabled cache has nothing to maintain.
+    fn maintenance(disabled: bool, parts: usize) -> Self
+        ensures plan { plan_at result ≡ pending_plan disabled parts }
+        ensures carries { carried_at result ≡ None }
+    {
+        if disabled {
+            Point::Answering(Answer::Done)
+        } else {
+            Point::Posting(Posting::Drain(Drained::Maintain { parts }))
+        }
+    }
+
     // A disabled cache is not looked at.
     fn get(disabled: bool, key: K) -> Self
-        ensures { plan_at result ≡ get_plan disabled key }
+        ensures plan { plan_at result ≡ get_plan disabled key }
+        ensures carries { carried_at result ≡ None }
     {
         if disabled {
             Point::Answering(Answer::Found(None))
@@ -86,7 +104,8 @@ impl<K: Drop, V: Drop, E: Drop> Point<K, V, E> {
 
     // A disabled cache stores nothing.
     fn insert(rules: Rules, key: K, value: V) -> Self
-        ensures { plan_at result ≡ insert_plan (is_disabled rules) rules key value }
+        ensures plan { plan_at result ≡ insert_plan (is_disabled rules) rules key value }
+        ensures carries { carried_at result ≡ None }
     {
         if is_disabled(rules) {
             Point::Answering(Answer::Done)
@@ -98,14 +117,16 @@ impl<K: Drop, V: Drop, E: Drop> Point<K, V, E> {
 
     // A load of this kind, with this replace test, if any.
     fn seeks(rules: Rules, kind: Kind, key: K, replace: Option<u64>) -> Self
-        ensures { plan_at result ≡ load_plan (is_disabled rules) (seek kind key replace) }
+        ensures plan { plan_at result ≡ load_plan (is_disabled rules) (seek kind key replace) }
+        ensures carries { carried_at result ≡ None }
     {
         let load = Load { key, kind };
         Point::load(is_disabled(rules), Sought { load, replace })
     }
 
     fn load(disabled: bool, sought: Sought<K>) -> Self
-        ensures { plan_at result ≡ load_plan disabled sought }
+        ensures plan { plan_at result ≡ load_plan disabled sought }
+        ensures carries { carried_at result ≡ None }
     {
         if disabled {
             Point::Posting(Posting::Drain(Drained::Own(sought)))
@@ -116,7 +137,8 @@ impl<K: Drop, V: Drop, E: Drop> Point<K, V, E> {
 
     // A disabled cache answers the value.
     fn or_insert(disabled: bool, key: K, value: V) -> Self
-        ensures { plan_at result ≡ or_insert_plan disabled key value }
+        ensures plan { plan_at result ≡ or_insert_plan disabled key value }
+        ensures carries { carried_at result ≡ None }
     {
         if disabled {
             Point::Posting(Posting::Drain(Drained::Loaded(value)))
@@ -127,22 +149,25 @@ impl<K: Drop, V: Drop, E: Drop> Point<K, V, E> {
 
     // A compute of the key, whose ask takes such answers.
     fn computes(key: K, asks: Asks) -> Self
-        ensures { plan_at result
+        ensures plan { plan_at result
             ≡ plan.Own_key (record { key = key; takes = takes_by asks }) ∷ [] }
+        ensures carries { carried_at result ≡ None }
     {
         Point::Computing(Computing::Own(KeyCompute { key, asks }))
     }
 
     fn takes_out(rules: Rules, removal: Removal, key: K) -> Self
-        ensures { plan_at result ≡ take_out rules (removal_at key removal) key }
+        ensures plan { plan_at result ≡ take_out rules (removal_at key removal) key }
+        ensures carries { carried_at result ≡ None }
     {
         Point::removing(rules, TakeOut { key, removal })
     }
 
     // An eviction takes up nothing that is owed.
     fn evict(listener: bool, chosen: Chosen<K>) -> Self
-        ensures { plan_at result ≡ under_lock listener chosen.key
+        ensures plan { plan_at result ≡ under_lock listener chosen.key
             (look (To_evict chosen.key chosen.stamp chosen.cause) chosen.key) }
+        ensures carries { carried_at result ≡ None }
     {
         if listener {
             Point::Listening(Listening::Lock(Locked::Find(chosen)))
@@ -153,7 +178,8 @@ impl<K: Drop, V: Drop, E: Drop> Point<K, V, E> {
 
     /// The record is taken out once nothing is owed, under its key's lock where a listener is set.
     pub(crate) fn removing(rules: Rules, out: TakeOut<K>) -> Self
-        ensures { plan_at result ≡ take_out rules (removal_of out) out.key }
+        ensures plan { plan_at result ≡ take_out rules (removal_of out) out.key }
+        ensures carries { carried_at result ≡ None }
     {
         let then = if rules.listener {
             Drained::Lock(Locked::TakeOut(out))
@@ -165,7 +191,8 @@ impl<K: Drop, V: Drop, E: Drop> Point<K, V, E> {
 
     /// The value is stored once nothing is owed, under its key's lock where a listener is set.
     pub(crate) fn storing(rules: Rules, value: Put<K, V>) -> Self
-        ensures { plan_at result ≡ put rules value.key value.value (put_rest value) }
+        ensures plan { plan_at result ≡ put rules value.key value.value (put_rest value) }
+        ensures carries { carried_at result ≡ None }
     {
         let then = if rules.listener {
             Drained::Lock(Locked::Put(value))

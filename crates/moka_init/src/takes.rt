@@ -1,5 +1,5 @@
 //! How a flow goes on after its access.
-ghost use Rattle.std.specs.Prelude.{◌≡◌};
+ghost use Rattle.std.specs.Prelude.{◌≡◌, ◌↔◌, ℕ, IsTrue, List};
 ghost use Rattle.moka_hist.specs.Step.{next_of};
 ghost use Rattle.moka_init.specs.FlowPlan.{call_of, next_in, is_begun};
 ghost use Rattle.moka_init.specs.FlowPlan.{IsLive, IsReady, Leaves, GoesOn};
@@ -12,6 +12,8 @@ use moka_hist::{Answer, Ask, Found, Got, Mode, TableTurn, Turn};
 use std::mem;
 
 impl<K: Drop, V: Drop, E: Drop> Flow<K, V, E> {
+    ghost use Rattle.moka_init.specs.declared.points.Maintenance.{Maintenance};
+
     /// Goes on with what the access gave that `want` told. It moves, and takes no memory. A call
     /// that has answered has nothing left to do, and holds no write. Precondition: the call has not
     /// answered, `want` has made the copies that the flow keeps, and the answer is of the form that
@@ -35,6 +37,22 @@ impl<K: Drop, V: Drop, E: Drop> Flow<K, V, E> {
                 self.after_visit(found)
             }
         }
+    }
+
+    // The visit by which predicates leave is made, and that is answered.
+    pub(crate) fn retires(&mut self)
+        requires there { (ids : List (ℕ × ℕ))
+            × (self.old.point ≡ Point.Maintaining (Maintenance.Retire ids)) }
+        ensures next { (given : Got K V E) → HasForm (access_at self.old) given
+            → next_in (Turn.Answer Answer.Done) self.new
+            ≡ next_of self.old.call (call_of self.old) given }
+        ensures begun { (given : Got K V E) → HasForm (access_at self.old) given
+            → self.new.begun ≡ is_begun given }
+        ensures number { self.new.call ≡ self.old.call }
+        ensures leaves { Leaves (Turn.Answer Answer.Done) self.new }
+    {
+        self.begun = false;
+        self.stands_at(Point::Spent);
     }
 
     // The call goes on from the point.
@@ -86,11 +104,18 @@ impl<K: Drop, V: Drop, E: Drop> Flow<K, V, E> {
         Turn::Answer(answer)
     }
 
-    // The call stands at the point, and the one where it stood is let go.
+    // The call stands at the point, and the one where it stood is let go. One where nothing is left
+    // owns nothing, and a look tells it: all others go apart, so that a step need not tell them from
+    // each other.
+    #[inline(always)]
     pub(crate) fn stands_at(&mut self, point: Point<K, V, E>)
         ensures { self.new ≡ record self.old { point = point } }
     {
-        drop(mem::replace(&mut self.point, point));
+        if self.point.is_spent() {
+            mem::forget(mem::replace(&mut self.point, point));
+        } else {
+            let_go(mem::replace(&mut self.point, point));
+        }
     }
 
     // After a step of a table operation.
@@ -104,6 +129,7 @@ impl<K: Drop, V: Drop, E: Drop> Flow<K, V, E> {
             Point::Writing(_) => self.writing_stepped(turn),
             Point::Removing(_) => self.removing_stepped(turn),
             Point::Walking(_) => self.walking_stepped(turn),
+            Point::Maintaining(_) => self.maintaining_stepped(turn),
             _ => unreachable!(),
         }
     }
@@ -125,10 +151,29 @@ impl<K: Drop, V: Drop, E: Drop> Flow<K, V, E> {
             Point::Removing(_) => self.removing_visited(found),
             Point::Listening(_) => self.listening_visited(found),
             Point::Walking(_) => self.walking_visited(found),
+            Point::Maintaining(_) => self.maintaining_visited(found),
             Point::InvalidatingAll => self.invalidating_visited(found),
             Point::Registering(_) => self.registering_visited(found),
             Point::Answering(_) => self.answering_visited(found),
             Point::Spent => unreachable!(),
+        }
+    }
+}
+
+// Lets go of a point at which something may be left.
+#[inline(never)]
+fn let_go<K: Drop, V: Drop, E: Drop>(former: Point<K, V, E>) {
+    drop(former);
+}
+
+impl<K, V, E> Point<K, V, E> {
+    // Whether nothing is left to do.
+    fn is_spent(&self) -> bool
+        ensures { IsTrue result ↔ (self.now ≡ Point.Spent) }
+    {
+        match self {
+            Point::Spent => true,
+            _ => false,
         }
     }
 }

@@ -150,7 +150,7 @@ impl<K: Drop, V: Drop, E: Drop> Point<K, V, E> {
 
 impl Part {
     // The part that follows, if this isn't the last one.
-    fn next(self) -> Option<Part>
+    pub(crate) fn next(self) -> Option<Part>
         ensures { MatchOption result (self.last ≤ self.number) (λ next.
             (self.number < self.last) × (next.number ≡ self.number + 1) × (next.last ≡ self.last)) }
     {

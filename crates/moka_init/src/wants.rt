@@ -3,21 +3,23 @@ ghost use Rattle.std.specs.Prelude.{◌≡◌, [], ◌∷◌, true, false, None,
 ghost use Rattle.moka_hist.specs.Plan as plan;
 ghost use Rattle.moka_hist.specs.Step.{access_of, want_for};
 ghost use Rattle.moka_init.specs.FlowPlan.{call_of, standing, IsLive, IsReady, StandsStill};
-ghost use Rattle.moka_init.specs.Grounds.{access_at, access_from, wish_for, wish_of, TakesCopies};
+ghost use Rattle.moka_init.specs.Grounds.{access_at, access_from, wish_for, wish_of, wish_with};
+ghost use Rattle.moka_init.specs.Grounds.{CopiesAt, CopiesWith, TakesCopies};
 ghost use Rattle.moka_init.specs.PointPlan.{posting_plan, looking_plan, loading_plan};
 ghost use Rattle.moka_init.specs.PointPlan.{computing_plan, writing_plan, removing_plan};
-ghost use Rattle.moka_init.specs.PointPlan.{compute_of, is_copied, listening_plan, walking_plan};
+ghost use Rattle.moka_init.specs.PointPlan.{carried_in, compute_of, is_copied, listening_plan};
+ghost use Rattle.moka_init.specs.PointPlan.{maintaining_plan, walking_plan};
 
 use crate::computing::{removed_as, stored_as};
 use crate::copies::{
     found_copy, key_locked, key_sought, pair_copy, replace_of, takes_of, want_get, want_holds,
     want_judge, want_list, want_lock, want_notice, want_out, want_own, want_own_alone,
-    want_own_key, want_scan, want_settle, want_write,
+    want_own_key, want_retire, want_scan, want_settle, want_strike, want_write,
 };
 use crate::flow::Flow;
 use crate::points::{
-    Computing, KeyCompute, Listening, Loading, Looking, Point, PostStep, Posted, Posting, Removing,
-    Uncopied, Walk, Writing,
+    Computing, KeyCompute, Listening, Loading, Looking, Maintenance, Point, PostStep, Posted,
+    Posting, Removing, Uncopied, Walk, Writing,
 };
 use moka_hist::{Settled, Stored, Visit, Want, Write};
 use moka_values::Exact;
@@ -33,7 +35,7 @@ impl<K: Exact, V: Exact, E: Exact> Flow<K, V, E> {
         ensures want { IfOk result (λ want. want ≡ wish_of self.old) }
         ensures ready { OnOk result (IsReady self.new) }
         ensures still { StandsStill self.old self.new }
-        ensures err { OnErr result (TakesCopies (access_at self.old)) }
+        ensures err { OnErr result (CopiesAt self.old) }
     {
         self.copy()?;
         self.wanted()
@@ -249,7 +251,7 @@ impl<K: Exact, V: Exact, E: Exact> Flow<K, V, E> {
     fn wanted(&self) -> Result<Want<K, V, E>, AllocError>
         requires live { IsLive self.now }
         ensures want { IfOk result (λ want. want ≡ wish_of self.now) }
-        ensures err { OnErr result (TakesCopies (access_at self.now)) }
+        ensures err { OnErr result (CopiesAt self.now) }
     {
         match &self.point {
             Point::Posting(posting) => Ok(self.want_posting(posting)),
@@ -260,6 +262,7 @@ impl<K: Exact, V: Exact, E: Exact> Flow<K, V, E> {
             Point::Removing(removing) => self.want_removing(removing),
             Point::Listening(listening) => self.want_listening(listening),
             Point::Walking(walk) => self.want_walking(walk),
+            Point::Maintaining(maintenance) => self.want_maintaining(maintenance),
             Point::InvalidatingAll => Ok(Want::Desk(Visit::InvalidateAll)),
             Point::Registering(test) => Ok(Want::Desk(Visit::Register { test: *test })),
             Point::Answering(_) => Ok(Want::Desk(Visit::Clock { call: self.call })),
@@ -392,6 +395,30 @@ impl<K: Exact, V: Exact, E: Exact> Flow<K, V, E> {
             Walk::List(part) => Ok(want_list(self.begun, part.number)),
             Walk::Find { key, .. } => want_get(self.begun, key),
             Walk::Scan { key, stored, .. } => want_scan(key, stored),
+        }
+    }
+
+    fn want_maintaining(&self, maintenance: &Maintenance<K, V>) -> Result<Want<K, V, E>, AllocError>
+        ensures want { IfOk result (λ want. want ≡ wish_with self.now
+            (carried_in maintenance.now) (maintaining_plan maintenance.now)) }
+        ensures err { OnErr result (CopiesWith self.now (carried_in maintenance.now)
+            (maintaining_plan maintenance.now)) }
+    {
+        let call = self.call;
+        match maintenance {
+            Maintenance::Turn { .. } => Ok(Want::Desk(Visit::TakeTurn { call })),
+            Maintenance::Apply { .. } => Ok(Want::Desk(Visit::ApplyOne { call })),
+            Maintenance::End { .. } => Ok(Want::Desk(Visit::EndTurn { call })),
+            Maintenance::Candidates { .. } => Ok(Want::Desk(Visit::Candidates)),
+            Maintenance::List { part, .. } => Ok(want_list(self.begun, part.number)),
+            Maintenance::Find { key, .. } => want_get(self.begun, key),
+            Maintenance::Strike {
+                key,
+                stored,
+                ids,
+                ..
+            } => want_strike(ids, key, stored),
+            Maintenance::Retire { ids } => want_retire(ids),
         }
     }
 }

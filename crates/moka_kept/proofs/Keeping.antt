@@ -83,6 +83,7 @@ module _ {K V E : Type 0} {same : PartialEq.Ghosts K} {hash : Hash.Ghosts K} (eq
         one_locker = sound.one_locker;
         locks = sound.locks;
         locked = sound.locked;
+        one_id = sound.one_id;
       }) refl refl (omega arith)
 
   -- all is invalidated

@@ -35,47 +35,50 @@ module _ {K V E : Type 0} where
   OfCall n (On_table operation) = Unit {0}
   OfCall n (On_desk made) = IsOfCall n made
 
-  of_item : (n : ℕ) (item : Item K V E) → OfCall n (access_for n item)
-  of_item n plan.Drain = refl
-  of_item n (plan.Ended number) = refl
-  of_item n (plan.Post write) = refl
-  of_item n plan.Turn = refl
-  of_item n plan.Apply = refl
-  of_item n plan.End = refl
-  of_item n (plan.Get aim key) = tt
-  of_item n (plan.Judge aim key found) = tt
-  of_item n (plan.Own load) = refl
-  of_item n (plan.Read load) = refl
-  of_item n (plan.Own_key compute) = refl
-  of_item n (plan.Own_alone key) = refl
-  of_item n (plan.Read_key compute) = refl
-  of_item n (plan.Ask_op compute pair) = refl
-  of_item n (plan.Told_op compute pair) = refl
-  of_item n (plan.Settle with) = refl
-  of_item n (plan.Ask load) = refl
-  of_item n (plan.Told load) = refl
-  of_item n (plan.Holds key stamp cause there found) = tt
-  of_item n (plan.Lock key) = refl
-  of_item n (plan.Unlock wrote) = refl
-  of_item n (plan.Notice key old cause upsert) = refl
-  of_item n plan.Heard = refl
-  of_item n (plan.Moment change) = refl
-  of_item n (plan.Write key value moment) = tt
-  of_item n (plan.Out removal key) = tt
-  of_item n plan.Idle = refl
-  of_item n plan.Invalidate_all = tt
-  of_item n (plan.Register test) = tt
-  of_item n (plan.List_keys part) = tt
-  of_item n (plan.Find key) = tt
-  of_item n (plan.Scan there found) = tt
-  of_item n (plan.Reply answer) = refl
+  of_item : (n : ℕ) (ids : Option (List (ℕ × ℕ))) (item : Item K V E) → OfCall n (access_for n ids item)
+  of_item n ids plan.Drain = refl
+  of_item n ids (plan.Ended number) = refl
+  of_item n ids (plan.Post write) = refl
+  of_item n ids plan.Turn = refl
+  of_item n ids plan.Apply = refl
+  of_item n ids plan.End = refl
+  of_item n ids (plan.Get aim key) = tt
+  of_item n ids (plan.Judge aim key found) = tt
+  of_item n ids (plan.Own load) = refl
+  of_item n ids (plan.Read load) = refl
+  of_item n ids (plan.Own_key compute) = refl
+  of_item n ids (plan.Own_alone key) = refl
+  of_item n ids (plan.Read_key compute) = refl
+  of_item n ids (plan.Ask_op compute pair) = refl
+  of_item n ids (plan.Told_op compute pair) = refl
+  of_item n ids (plan.Settle with) = refl
+  of_item n ids (plan.Ask load) = refl
+  of_item n ids (plan.Told load) = refl
+  of_item n ids (plan.Holds key stamp cause there found) = tt
+  of_item n ids (plan.Lock key) = refl
+  of_item n ids (plan.Unlock wrote) = refl
+  of_item n ids (plan.Notice key old cause upsert) = refl
+  of_item n ids plan.Heard = refl
+  of_item n ids (plan.Moment change) = refl
+  of_item n ids (plan.Write key value moment) = tt
+  of_item n ids (plan.Out removal key) = tt
+  of_item n ids plan.Idle = refl
+  of_item n ids plan.Invalidate_all = tt
+  of_item n ids (plan.Register test) = tt
+  of_item n ids (plan.List_keys part) = tt
+  of_item n ids (plan.Find key) = tt
+  of_item n ids (plan.Scan there found) = tt
+  of_item n ids (plan.Candidates parts) = tt
+  of_item n ids (plan.Strike there found) = tt
+  of_item n ids plan.Retire = tt
+  of_item n ids (plan.Reply answer) = refl
 
   -- a call's next access is one of it
   pub of_call : (n : ℕ) (c : Call K V E) → OfCall n (access_of n c)
   of_call n c = by c.plan where
     by : (items : List (Item K V E)) → OfCall n (access_of n (record c { plan = items }))
     by [] = refl
-    by (item ∷ rest) = of_item n item
+    by (item ∷ rest) = of_item n c.carried item
 
 module _ {K V E : Type 0} {same : PartialEq.Ghosts K} {hash : Hash.Ghosts K} (eq : K → K → Bool) (desk : Desk K V E same hash) (w : DeskPart K V E) (h : StandsFor eq desk w) where
   -- the desk allows the call's next access, where it allows each visit of the call that needs what
@@ -125,27 +128,27 @@ module _ {K V E : Type 0} where
   taking_none (On_desk made) is = absurd (cc)
 
   -- a call's next access takes the answer to its own ask where its plan does
-  told_item : (n : ℕ) (item : Item K V E) (rest : List (Item K V E)) → is_taking (access_for n item) ≡ takes_told (item ∷ rest)
-  told_item n (plan.Told load) rest = refl
-  told_item n (plan.Told_op compute pair) rest = refl
-  told_item n _ rest = refl
+  told_item : (n : ℕ) (ids : Option (List (ℕ × ℕ))) (item : Item K V E) (rest : List (Item K V E)) → is_taking (access_for n ids item) ≡ takes_told (item ∷ rest)
+  told_item n ids (plan.Told load) rest = refl
+  told_item n ids (plan.Told_op compute pair) rest = refl
+  told_item n ids _ rest = refl
 
   pub told_at : (n : ℕ) (c : Call K V E) → is_taking (access_of n c) ≡ takes_told c.plan
   told_at n c = by c.plan where
     by : (items : List (Item K V E)) → is_taking (access_of n (record c { plan = items })) ≡ takes_told items
     by [] = refl
-    by (item ∷ rest) = told_item n item rest
+    by (item ∷ rest) = told_item n c.carried item rest
 
   -- a call's next access asks the test that its plan does
-  tested_item : (n : ℕ) (item : Item K V E) (rest : List (Item K V E)) → tested_by (access_for n item) ≡ tested_in (item ∷ rest)
-  tested_item n (plan.Judge aim key found) rest = refl
-  tested_item n _ rest = refl
+  tested_item : (n : ℕ) (ids : Option (List (ℕ × ℕ))) (item : Item K V E) (rest : List (Item K V E)) → tested_by (access_for n ids item) ≡ tested_in (item ∷ rest)
+  tested_item n ids (plan.Judge aim key found) rest = refl
+  tested_item n ids _ rest = refl
 
   pub tested_at : (n : ℕ) (c : Call K V E) → tested_by (access_of n c) ≡ tested_in c.plan
   tested_at n c = by c.plan where
     by : (items : List (Item K V E)) → tested_by (access_of n (record c { plan = items })) ≡ tested_in items
     by [] = refl
-    by (item ∷ rest) = tested_item n item rest
+    by (item ∷ rest) = tested_item n c.carried item rest
 
   -- an access that takes no answer to the own ask, and asks no test, takes none
   found_none : (made : Visit K V E) (f : Found V E) → takes_answer made ≡ false → tested_made made ≡ None → TookSuch made f NoAnswer

@@ -10,7 +10,7 @@ ghost use Rattle.moka_kept.specs.Parked.{is_parked};
 use crate::guarded::ToWake;
 use crate::in_hand::InHand;
 use crate::parked::{HandedOut, Parked};
-use moka_hist::{Got, Want};
+use moka_hist::{Got, IdList, Visit, Want};
 use moka_init::{Alone, Ground};
 use moka_layers::Layers;
 use moka_sync::CallList;
@@ -126,5 +126,34 @@ impl<K: Eq + Hash + Exact, V: Exact, E: Exact> Ground<K, V, E> for Reach<K, V, E
     {
         moka_laws::visits_keep_sound::<K, V, E>();
         self.layers.access_waking(want, &mut self.woken)
+    }
+
+    fn retire(&mut self, ids: &IdList) -> Result<Got<K, V, E>, AllocError>
+        requires fits { MayReach K.eq self.old.layers (Want.Desk (Visit.Retire ids.now)) }
+        // What it gives, and what is told then.
+        ensures gives { IfOk result (λ given.
+            OfWanted (account_of (plain_table K.eq) self.old.layers)
+            (Want.Desk (Visit.Retire ids.now)) (λ access.
+            Gives K.eq self.old.layers.call (ReachIs K.eq self.old.layers) access given
+            (ReachIs K.eq self.new.layers))) }
+        ensures tells { IfOk result (λ given.
+            OfWanted (account_of (plain_table K.eq) self.old.layers)
+            (Want.Desk (Visit.Retire ids.now)) (λ access.
+            Accesses (account_of (plain_table K.eq) self.old.layers) access given
+            (account_of (plain_table K.eq) self.new.layers))) }
+        ensures keeps { (self.new.layers.call ≡ self.old.layers.call)
+            × (self.old.layers.begun ≡ None → self.new.layers.begun ≡ None) }
+        // Without memory.
+        ensures err { OnErr result (account_of (plain_table K.eq) self.new.layers
+            ≡ account_of (plain_table K.eq) self.old.layers) }
+        ensures err_stands { OnErr result ((w : World K V E) → ReachIs K.eq self.old.layers w
+            → ReachIs K.eq self.new.layers w) }
+        ensures err_needs { OnErr result
+            (OfWanted (account_of (plain_table K.eq) self.old.layers)
+            (Want.Desk (Visit.Retire ids.now))
+            (Lacks (ReachIs K.eq self.old.layers) NeedsMemory)) }
+    {
+        moka_laws::visits_keep_sound::<K, V, E>();
+        Ok(self.layers.retire(ids))
     }
 }

@@ -2,7 +2,7 @@
 use Rattle.std.proofs.Common.{◌≡◌, ℕ, ◌+◌, ◌≤◌, ◌==◌, max, Bool, true, false, cond, ◌&&◌, List, [], ◌∷◌, Option, Some, None, unwrap_or, refl, sym, ap, ◌∙◌, subst, arith, map, ◌++◌}
 use Rattle.std.proofs.lemmas.Bool.Decides.{nat_tests}
 use Rattle.moka_hist.specs.State.{State, World, Call, DeskPart, TablePart, fresh}
-use Rattle.moka_hist.specs.Plan.{Item, Aim, plan_of}
+use Rattle.moka_hist.specs.Plan.{Item, Aim, plan_of, lists_from}
 use Rattle.moka_hist.specs.Plan as plan
 use Rattle.moka_hist.specs.Next.{Next, goes}
 use Rattle.moka_hist.specs.Looking.{finds_pair, hits, misses, keeps}
@@ -39,11 +39,12 @@ use Rattle.moka_laws.proofs.Counting.{none_some, put_cases, some_same}
 use Rattle.moka_laws.proofs.Following.{IsFollowed, follow}
 use Rattle.moka_laws.proofs.Outcomes.{Outcomes, outcomes, passes_on}
 use Rattle.moka_laws.proofs.Owning.{plan_left}
-use Rattle.moka_laws.proofs.Rules.{IsFresh, Computes, Computes_alone, Disabled, Evicts, Locks_and_puts, Locks_and_takes_out, Puts, abort_next, chosen_next, fresh_plan, kept_next, loaded_plans, put_plans, read_key_next, told_op_next, Registers, Walks_over}
+use Rattle.moka_laws.proofs.Rules.{IsFresh, Computes, Computes_alone, Disabled, Evicts, Locks_and_puts, Locks_and_takes_out, Puts, abort_next, chosen_next, fresh_plan, kept_next, loaded_plans, put_plans, read_key_next, told_op_next, Registers, Walks_over, Maintains}
 use Rattle.moka_laws.proofs.Stamps.{key_cases}
 use Rattle.moka_laws.proofs.StepCases.{OnStep, step_cases}
 use Rattle.moka_laws.proofs.Steady.{SameBase, accessed_after, accessed_by, step_base, valid_from}
-use Rattle.moka_laws.proofs.Walks.{Ends, Finds, IsWalk, Lists, Scans, walk_is_walk}
+use Rattle.moka_laws.proofs.Walks.{Ends, Finds, IsWalk, Lists, Scans, walk_is_walk, Chooses, Retires, Strikes, retiring_walk}
+use Rattle.moka_hist.specs.Maintenance.{carrying}
 
 -- a moment that is not after the clock is not after a later one
 later : (a k l : ℕ) → a ≤ k → k ≤ l → a ≤ l
@@ -80,6 +81,9 @@ module _ {K V E : Type 0} where
 
   walk_timely : (k : ℕ) (p : List (Item K V E)) → IsWalk p → AllTimely k p
   walk_timely k p Ends = (tt, tt)
+  walk_timely k p Retires = (tt, tt)
+  walk_timely k p (Chooses parts) = (tt, tt)
+  walk_timely k p (Strikes there stored rest walk) = (tt, walk_timely k rest walk)
   walk_timely k p (Lists part rest walk) = (tt, walk_timely k rest walk)
   walk_timely k p (Finds key rest walk) = (tt, walk_timely k rest walk)
   walk_timely k p (Scans there stored rest walk) = (tt, walk_timely k rest walk)
@@ -94,6 +98,7 @@ module _ {K V E : Type 0} where
   fresh_timely k rules p (Evicts key stamp cause off) = (tt, tt)
   fresh_timely k rules p (Registers test) = (tt, tt)
   fresh_timely k rules p (Walks_over parts able) = walk_timely k p (walk_is_walk 0 parts)
+  fresh_timely k rules p (Maintains parts able) = (tt, (tt, (tt, (tt, (tt, tt)))))
   fresh_timely k rules p _ = (tt, (tt, tt))
 
   module _ (k : ℕ) where
@@ -225,10 +230,17 @@ module _ {K V E : Type 0} where
     on_item (plan.Find key) rest q = (
       λ more. p,
       λ none. goes_timely _ c rest q.1,
-      λ there stored some. (tt, q.1),
+      λ there stored some none. (tt, q.1),
+      λ there stored ids some is. (tt, q.1),
     )
     on_item (plan.Scan there stored) rest q = (λ seen. q.1, λ unseen. goes_timely _ c rest q.1)
     on_item (plan.Register test) rest q = tt
+    on_item (plan.Candidates parts) rest q = (
+      λ none. tt,
+      λ id more some. goes_timely _ (carrying c (id ∷ more)) (lists_from 0 parts (plan.Retire ∷ [])) (walk_timely _ _ (retiring_walk parts)),
+    )
+    on_item (plan.Strike there stored) rest q = goes_timely _ (carrying c _) rest q.1
+    on_item plan.Retire rest q = tt
     on_item (plan.Reply a) rest q = tt
     on_item item rest q = passes_on eq Leaves w n c item rest tt (λ d. goes_timely _ c rest q.1) p
 
@@ -247,16 +259,16 @@ module _ {K V E : Type 0} where
   Needs k (On_desk (visit.Judge replace key stored)) = stored.modified ≤ k
   Needs k _ = Unit {0}
 
-  item_needs : (k n : ℕ) (item : Item K V E) → Timely k item → Needs k (access_for n item)
-  item_needs k n (plan.Judge aim key stored) h = h
-  item_needs k n (plan.Write key value moment) h = h
-  item_needs k n _ h = tt
+  item_needs : (k n : ℕ) (ids : Option (List (ℕ × ℕ))) (item : Item K V E) → Timely k item → Needs k (access_for n ids item)
+  item_needs k n ids (plan.Judge aim key stored) h = h
+  item_needs k n ids (plan.Write key value moment) h = h
+  item_needs k n ids _ h = tt
 
-  plan_needs : (k n : ℕ) (rules : Rules) (mode : Mode) (p : List (Item K V E)) (aborts : ℕ) →
-      AllTimely k p →
-      Needs k (access_of n (record { rules = rules; mode = mode; plan = p; aborts = aborts }))
-  plan_needs k n rules mode [] aborts q = tt
-  plan_needs k n rules mode (item ∷ rest) aborts q = item_needs k n item q.0
+  plan_needs : (k n : ℕ) (rules : Rules) (mode : Mode) (p : List (Item K V E)) (aborts : ℕ)
+      (ids : Option (List (ℕ × ℕ))) → AllTimely k p →
+      Needs k (access_of n (record { rules = rules; mode = mode; plan = p; aborts = aborts; carried = ids }))
+  plan_needs k n rules mode [] aborts ids q = tt
+  plan_needs k n rules mode (item ∷ rest) aborts ids q = item_needs k n ids item q.0
 
 module _ {K V : Type 0} (eq : K → K → Bool) (k n : ℕ) (t : TablePart K V) where
   written_timely : StoredTimely k t → (key : K) (stored : Stored V) → stored.modified ≤ k →
@@ -369,7 +381,7 @@ module _ {K V E : Type 0} (eq : K → K → Bool) where
 
       needs : Needs s.world.desk.clock (access_of n step.call)
       needs = plan_needs s.world.desk.clock n step.call.rules step.call.mode step.call.plan
-          step.call.aborts (i.plans n step.call step.live)
+          step.call.aborts step.call.carried (i.plans n step.call step.live)
 
       left : (m : ℕ) (c : Call K V E) → t.calls m ≡ Some c → AllTimely s.world.desk.clock c.plan
       left = step_cases eq (λ new next. AllTimely s.world.desk.clock (plan_left next.left))
@@ -437,12 +449,12 @@ module _ {K V E : Type 0} (eq : K → K → Bool) where
   kept_by d _ = d.accessed
 
   kept_so : (w : World K V E) (n : ℕ) (rules : Rules) (mode : Mode) (p : List (Item K V E))
-      (aborts : ℕ) →
-      accessed_after w (access_of n (record { rules = rules; mode = mode; plan = p; aborts = aborts }))
+      (aborts : ℕ) (ids : Option (List (ℕ × ℕ))) →
+      accessed_after w (access_of n (record { rules = rules; mode = mode; plan = p; aborts = aborts; carried = ids }))
       ≡ kept_by w.desk p
-  kept_so w n rules mode [] aborts = refl
-  kept_so w n rules mode (plan.Judge aim there stored ∷ rest) aborts = refl
-  kept_so w n rules mode (_ ∷ rest) aborts = refl
+  kept_so w n rules mode [] aborts ids = refl
+  kept_so w n rules mode (plan.Judge aim there stored ∷ rest) aborts ids = refl
+  kept_so w n rules mode (_ ∷ rest) aborts ids = refl
 
   -- what is kept of a stamp once a record of the same stamp, or of another, was judged
   abbrev kept_now : DeskPart K V E → ℕ → ℕ → ℕ → Bool → Bool → Option ℕ
@@ -493,6 +505,6 @@ module _ {K V E : Type 0} (eq : K → K → Bool) where
       (sees_next s.world.desk b.plan stored.stamp) s.world.desk.clock (accessed_in s stored)) is
       (ap (λ f. max stored.modified (unwrap_or (f stored.stamp) stored.modified))
       ((step_base eq s t n reply step).accessed ∙ kept_so s.world n step.call.rules step.call.mode
-      step.call.plan step.call.aborts) ∙
+      step.call.plan step.call.aborts step.call.carried) ∙
       raised s.world.desk step.call.plan stored.stamp stored.modified i.accessed
       (i.plans n step.call step.live) (i.stored key (there, stored) e))

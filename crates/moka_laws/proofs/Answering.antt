@@ -2,7 +2,7 @@
 use Rattle.std.proofs.Common.{◌≡◌, ◌≢◌, ℕ, ◌+◌, ◌==◌, Bool, true, false, cond, List, [], ◌∷◌, Option, Some, None, refl, ◌∙◌, subst, ◌++◌, map}
 use Rattle.moka_hist.specs.Finite.{put_at}
 use Rattle.moka_hist.specs.State.{State, World, Call, DeskPart}
-use Rattle.moka_hist.specs.Plan.{Item, Aim, held_by, plan_of}
+use Rattle.moka_hist.specs.Plan.{Item, Aim, held_by, plan_of, lists_from}
 use Rattle.moka_hist.specs.Plan as plan
 use Rattle.moka_hist.specs.Visits.{settlement_for, settled_with, settled_without}
 use Rattle.moka_hist.specs.Next.{Next, goes}
@@ -31,7 +31,8 @@ use Rattle.moka_laws.proofs.Counting.{none_some, put_cases}
 use Rattle.moka_laws.proofs.Kept.{IsInvariant, in_reached}
 use Rattle.moka_laws.proofs.StepCases.{OnStep, step_cases}
 use Rattle.moka_laws.proofs.Outcomes.{Outcomes, outcomes, passes_by}
-use Rattle.moka_laws.proofs.Walks.{Ends, Finds, IsWalk, Lists, Scans, walk_is_walk}
+use Rattle.moka_laws.proofs.Walks.{Ends, Finds, IsWalk, Lists, Scans, walk_is_walk, Chooses, Retires, Strikes, retiring_walk}
+use Rattle.moka_hist.specs.Maintenance.{carrying}
 
 kept_or : {A : Type 0} (b : Bool) (x y : A) (P : A → Type 0) → P x → P y → P (cond b x y)
 kept_or true x y P p q = p
@@ -79,6 +80,8 @@ module _ {K V E : Type 0} where
   EndsWell (plan.Moment (plan.To_take_out removal key) ∷ rest) = Unit {0}
   EndsWell (plan.Out removal key ∷ rest) = Unit {0}
   EndsWell (plan.Register test ∷ rest) = Unit {0}
+  EndsWell (plan.Candidates parts ∷ rest) = Unit {0}
+  EndsWell (plan.Retire ∷ rest) = Unit {0}
   EndsWell (plan.Reply answer ∷ rest) = Unit {0}
   EndsWell (plan.Settle settled.NotYet ∷ rest) = ⊥
   EndsWell (_ ∷ rest) = EndsWell rest
@@ -102,6 +105,9 @@ module _ {K V E : Type 0} where
 
   walk_ends : (p : List (Item K V E)) → IsWalk p → EndsWell p
   walk_ends p Ends = tt
+  walk_ends p Retires = tt
+  walk_ends p (Chooses parts) = tt
+  walk_ends p (Strikes there stored rest walk) = walk_ends rest walk
   walk_ends p (Lists part rest walk) = walk_ends rest walk
   walk_ends p (Finds key rest walk) = walk_ends rest walk
   walk_ends p (Scans there stored rest walk) = walk_ends rest walk
@@ -244,9 +250,15 @@ module _ {K V E : Type 0} where
     on_item (plan.List_keys part) rest h p =
         ((λ more. (p, d)), λ listed keys e gives. (goes_well c (map plan.Find keys ++ rest) (finds_end keys rest h), d))
     on_item (plan.Find key) rest h p =
-        ((λ more. (p, d)), (λ none. (goes_well c rest h, d)), λ k stored some. (h, d))
+        ((λ more. (p, d)), (λ none. (goes_well c rest h, d)), (λ k stored some none. (h, d)), λ k stored ids some is. (h, d))
     on_item (plan.Scan there stored) rest h p = ((λ seen. (h, d)), λ unseen. (goes_well c rest h, d))
     on_item (plan.Register test) rest h p = (tt, d)
+    on_item (plan.Candidates parts) rest h p = (
+      (λ none. (tt, d)),
+      λ id more some. (goes_well (carrying c (id ∷ more)) (lists_from 0 parts (plan.Retire ∷ [])) (walk_ends _ (retiring_walk parts)), d),
+    )
+    on_item (plan.Strike there stored) rest h p = (goes_well (carrying c _) rest h, d)
+    on_item plan.Retire rest h p = (tt, d)
     on_item (plan.Reply answer) rest h p = (tt, d)
     on_item item rest h p = passes_by eq Leaves w n c item rest tt
         (λ b a. (goes_well c rest h, rw (a.settled, a.told) d)) (p, d)

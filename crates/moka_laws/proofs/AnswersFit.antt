@@ -1,10 +1,10 @@
 -- A call answers as what it was started for may.
-use Rattle.std.proofs.Common.{◌≡◌, ℕ, ◌+◌, ◌==◌, Bool, true, false, List, [], ◌∷◌, Option, Some, None, refl, sym, ◌∙◌, subst, map, ◌++◌, Result, Ok, Err}
+use Rattle.std.proofs.Common.{◌≡◌, ℕ, ◌+◌, ◌==◌, Bool, true, false, List, [], ◌∷◌, Option, Some, None, refl, sym, ◌∙◌, subst, map, ◌++◌, Result, Ok, Err, zero, suc}
 use Rattle.std.proofs.lemmas.Bool.{false≢true}
 use Rattle.moka_hist.specs.Invalidating.{registering_answer}
 use Rattle.moka_hist.specs.Conditions.{may_end}
 use Rattle.moka_hist.specs.State.{State, World, Call}
-use Rattle.moka_hist.specs.Plan.{Item, Aim, Change, Removal, end_load, is_disabled, get_plan, insert_plan, load_plan, or_insert_plan, seek, take_out, under_lock, plan_of, iter_plan}
+use Rattle.moka_hist.specs.Plan.{Item, Aim, Change, Removal, end_load, is_disabled, get_plan, insert_plan, load_plan, or_insert_plan, seek, take_out, under_lock, plan_of, iter_plan, lists_from, pending_plan, walk_from}
 use Rattle.moka_hist.specs.Plan as plan
 use Rattle.moka_hist.specs.Next.{Next, goes, waits}
 use Rattle.moka_hist.specs.Looking.{shown, hits, misses, keeps, finds_pair}
@@ -50,7 +50,7 @@ use Rattle.moka_hist.specs.declared.visits.Takes.{Takes}
 use Rattle.moka_hist.specs.declared.visits.Takes.TheVariants as takes
 use Rattle.moka_hist.specs.Computing.{after_told_op, after_read_key}
 use Rattle.moka_hist.specs.Entries.{unchanged, put_answer}
-use Rattle.moka_laws.proofs.Walks.{Ends, Finds, IsWalk, Lists, Scans, walk_is_walk}
+use Rattle.moka_hist.specs.Maintenance.{carrying}
 
 same_answer : {K V E : Type 0} (a b : Answer K V E) → ◌≡◌ {A = Turn K V E} (turn.Answer a)
     (turn.Answer b) →
@@ -164,6 +164,8 @@ module _ {K V E : Type 0} (begin : Start K V) where
   Suits (plan.Out removal key) = SuitsRemoval E begin removal
   Suits (plan.Register test) =
       (registering : Result ℕ PredicateError) → May (registering_answer registering)
+  Suits (plan.Candidates parts) = May answer.Done
+  Suits plan.Retire = May answer.Done
   Suits (plan.Reply a) = May a
   Suits _ = Unit {0}
 
@@ -172,6 +174,10 @@ module _ {K V E : Type 0} (begin : Start K V) where
   AllSuit (item ∷ rest) = Suits item × AllSuit rest
 
   -- the looks for listed keys answer nothing
+  lists_suit : (rest : List (Item K V E)) → AllSuit rest → (part left : ℕ) → AllSuit (lists_from part left rest)
+  lists_suit rest suits part zero = suits
+  lists_suit rest suits part (suc left) = (tt, lists_suit rest suits (part + 1) left)
+
   keys_suit : (keys : List K) (rest : List (Item K V E)) → AllSuit rest → AllSuit (map plan.Find keys ++ rest)
   keys_suit [] rest q = q
   keys_suit (key ∷ keys) rest q = (tt, keys_suit keys rest q)
@@ -413,12 +419,19 @@ module _ {K V E : Type 0} (begin : Start K V) where
     on_item (plan.Find key) rest e q = (
       (λ more. on _ (λ b g. cc) p),
       (λ none. goes_suits c rest q.1),
-      λ k stored some. on _ (λ b g. cc) (tt, q.1),
+      (λ k stored some none. on _ (λ b g. cc) (tt, q.1)),
+      λ k stored ids some is. on _ (λ b g. cc) (tt, q.1),
     )
     on_item (plan.Scan there stored) rest e q =
         ((λ seen. on _ (λ b g. cc) q.1), λ unseen. goes_suits c rest q.1)
     on_item (plan.Register test) rest e q =
         answers_so (registering_answer (registering w.desk)) _ refl refl (q.0 (registering w.desk))
+    on_item (plan.Candidates parts) rest e q = (
+      (λ none. answers_so answer.Done _ refl refl q.0),
+      λ id more some. goes_suits (carrying c (id ∷ more)) (lists_from 0 parts (plan.Retire ∷ [])) (lists_suit (plan.Retire ∷ []) (q.0, tt) 0 parts),
+    )
+    on_item (plan.Strike there stored) rest e q = goes_suits (carrying c _) rest q.1
+    on_item plan.Retire rest e q = answers_so answer.Done _ refl refl q.0
     on_item (plan.Reply a) rest e q = answers_so a _ refl refl q.0
     on_item item rest e q =
         passes_on eq After w n c item rest tt (λ d. goes_suits c rest q.1) parks
@@ -444,12 +457,6 @@ module _ {K V : Type 0} (E : Type 0) where
           (plan.Drain ∷ under_lock b key (plan.Moment (plan.To_take_out removal key) ∷ []))
       by true = (tt, (tt, (s, tt)))
       by false = (tt, (s, tt))
-
-  walk_suits : (p : List (Item K V E)) → IsWalk p → AllSuit {E = E} start.Iter p
-  walk_suits p Ends = (refl, tt)
-  walk_suits p (Lists part rest walk) = (tt, walk_suits rest walk)
-  walk_suits p (Finds key rest walk) = (tt, walk_suits rest walk)
-  walk_suits p (Scans there stored rest walk) = (tt, walk_suits rest walk)
 
   pub fresh_suits : (parts : ℕ) (rules : Rules) (begin : Start K V) → AllSuit {E = E} begin (plan_of parts rules begin)
   fresh_suits parts rules (start.Get key) = by (is_disabled rules)
@@ -493,7 +500,12 @@ module _ {K V : Type 0} (E : Type 0) where
     where
       by : (b : Bool) → AllSuit {K = K} {V = V} {E = E} start.Iter (iter_plan b parts)
       by true = (refl, tt)
-      by false = walk_suits _ (walk_is_walk 0 parts)
+      by false = lists_suit start.Iter (plan.Reply answer.End ∷ []) (refl, tt) 0 parts
+  fresh_suits parts rules start.Pending = by (is_disabled rules)
+    where
+      by : (b : Bool) → AllSuit {K = K} {V = V} {E = E} start.Pending (pending_plan b parts)
+      by true = (refl, tt)
+      by false = (tt, (tt, (tt, (tt, (refl, tt)))))
   fresh_suits parts rules (start.Evict key stamp cause) = by rules.listener
     where
       by : (b : Bool) → AllSuit {V = V} {E = E} (start.Evict key stamp cause)

@@ -57,7 +57,7 @@ module _ {K V E : Type 0} where
   waits p (Writing key value moment rest t) h = absurd (omega (arith, h, tail_takes rest t))
   waits p (Freeing rest t) h = absurd (omega (arith, h, tail_takes rest t))
   waits p (Idling rest t) h = absurd (omega (arith, h, tail_takes rest t))
-  waits p (Walking rest walk) h = none p (weigh_walk takes_told (record { list = λ part. refl; find = λ key. refl; scan = λ there stored. refl; end = refl }) p walk) h
+  waits p (Walking rest walk) h = none p (weigh_walk takes_told (record { list = λ part. refl; find = λ key. refl; scan = λ there stored. refl; end = refl; choose = λ parts. refl; strike = λ there stored. refl; retire = refl }) p walk) h
   waits p _ h = absurd (omega (arith, h))
 
 module _ {K V E : Type 0} (s : State K V E) (i : IsAsking s) (n : ℕ)

@@ -32,7 +32,7 @@ use Rattle.moka_hist.specs.Writing.{nothing_answer, removed_answer, said}
 use Rattle.moka_laws.proofs.Rules.{abort_next, put_plans, loaded_plans, kept_next, chosen_next, IsFresh, Disabled, fresh_plan, read_key_next, told_op_next_by, IsLoad, IsComputes, Walks_over}
 use Rattle.moka_laws.proofs.Counting.{put_here, put_there}
 use Rattle.moka_laws.proofs.Weights.{weigh, weigh_call, weigh_goes}
-use Rattle.moka_laws.proofs.Plans.{IsLook, IsTail, Answering, Settling, IsDrained, Looking, Owning, Giving, Putting, Removing, Locking_out, IsPosted, Draining, Ended, Locking, IsPlan, Posted, Drained, Posting, Hearing, Noticing, Listening, Unlocking, Turning, Applying, Ending, Judging, Reading, Asking, Telling, Writing, Choosing, Finding, Chosen, Taking, Freeing, Hiding, Registering, Idling, IsKnown, known_kept, Asking_op, Owning_key, Owning_alone, Reading_key, Telling_op, Walking}
+use Rattle.moka_laws.proofs.Plans.{IsLook, IsTail, Answering, Settling, IsDrained, Looking, Owning, Giving, Putting, Removing, Locking_out, IsPosted, Draining, Ended, Locking, IsPlan, Posted, Drained, Posting, Hearing, Noticing, Listening, Unlocking, Turning, Applying, Ending, Judging, Reading, Asking, Telling, Writing, Choosing, Finding, Chosen, Taking, Freeing, Hiding, Registering, Idling, IsKnown, known_kept, Asking_op, Owning_key, Owning_alone, Reading_key, Telling_op, Walking, Maintaining, Applying_all, Ending_all}
 use Rattle.moka_laws.proofs.Balance.{IsBalanced}
 use Rattle.moka_laws.proofs.Balanced.{balanced_kept, next_free}
 use Rattle.moka_laws.proofs.Kept.{IsInvariant, in_reached}
@@ -117,7 +117,7 @@ module _ {K V E : Type 0} where
 
   fresh_none : (rules : Rules) (p : List (Item K V E)) → IsFresh rules p → weigh takes_told p ≡ 0
   fresh_none rules p (Disabled a d plain) = refl
-  fresh_none rules p (Walks_over parts able) = weigh_walk takes_told (record { list = λ part. refl; find = λ key. refl; scan = λ there stored. refl; end = refl }) p (walk_is_walk 0 parts)
+  fresh_none rules p (Walks_over parts able) = weigh_walk takes_told (record { list = λ part. refl; find = λ key. refl; scan = λ there stored. refl; end = refl; choose = λ parts. refl; strike = λ there stored. refl; retire = refl }) p (walk_is_walk 0 parts)
   fresh_none rules p _ = refl
 
   said_takes : (removal : Removal K) (a : Answer K V E) → weigh takes_told (said removal a) ≡ 0
@@ -152,7 +152,7 @@ module _ {K V E : Type 0} where
   plan_few p (Writing key value moment rest t) = omega (arith, tail_few rest t)
   plan_few p (Freeing rest t) = omega (arith, tail_few rest t)
   plan_few p (Idling rest t) = omega (arith, tail_few rest t)
-  plan_few p (Walking rest walk) = omega (arith, weigh_walk takes_told (record { list = λ part. refl; find = λ key. refl; scan = λ there stored. refl; end = refl }) p walk)
+  plan_few p (Walking rest walk) = omega (arith, weigh_walk takes_told (record { list = λ part. refl; find = λ key. refl; scan = λ there stored. refl; end = refl; choose = λ parts. refl; strike = λ there stored. refl; retire = refl }) p walk)
   plan_few p _ = omega arith
 
   -- ---- what a step has to show
@@ -211,6 +211,8 @@ module _ {K V E : Type 0} where
     on_drained p e (Locking_out removal key) =
         outcomes eq Leaves w n c (plan.Lock key) (plan.Moment (plan.To_take_out removal key) ∷ [])
         ((λ free. still (omega (arith, ap (weigh takes_told) e))), λ held. still refl)
+    on_drained p e (Maintaining parts) = outcomes eq Leaves w n c plan.Turn (plan.Apply ∷ plan.End ∷ plan.Candidates parts ∷ [])
+        ((λ free. still (omega (arith, ap (weigh takes_told) e))), λ taken. still refl)
 
     on_posted : (p : List (Item K V E)) → c.plan ≡ p → IsPosted p → OnStep eq Leaves w n c p
     on_posted p e (Draining rest d) = outcomes eq Leaves w n c plan.Drain rest (
@@ -343,10 +345,13 @@ module _ {K V E : Type 0} where
     on_plan p e (Registering test) = outcomes eq Leaves w n c (plan.Register test) []
         (still (omega (arith, ap (weigh takes_told) e)))
     on_plan p e (Walking rest walk) =
-        let light : IsLight {K = K} {V = V} {E = E} takes_told = (record { list = λ part. refl; find = λ key. refl; scan = λ there stored. refl; end = refl }) in
+        let light : IsLight {K = K} {V = V} {E = E} takes_told = (record { list = λ part. refl; find = λ key. refl; scan = λ there stored. refl; end = refl; choose = λ parts. refl; strike = λ there stored. refl; retire = refl }) in
         let z : weigh takes_told c.plan ≡ 0 = ap (weigh takes_told) e ∙ weigh_walk takes_told light p walk in
         on_walk eq Leaves w n c rest walk
-        (λ listings stay next on. still (walks_weigh takes_told light (λ a. refl) c z next on ∙ sym z)) (still (sym z))
+        (λ listings stay next on. still (walks_weigh takes_told light (λ a. refl) c z next on ∙ sym z)) (still (sym z)) (λ ids. still (sym z))
+    on_plan p e (Applying_all parts) = outcomes eq Leaves w n c plan.Apply (plan.End ∷ plan.Candidates parts ∷ [])
+        ((λ none. still (omega (arith, ap (weigh takes_told) e))), λ y ys some. still (omega (arith, ap (weigh takes_told) e)))
+    on_plan p e (Ending_all parts) = outcomes eq Leaves w n c plan.End (plan.Candidates parts ∷ []) (still (omega (arith, ap (weigh takes_told) e)))
     on_plan p e (Idling rest t) = outcomes eq Leaves w n c plan.Idle rest
         (goes_on rest (omega (arith, ap (weigh takes_told) e)))
 

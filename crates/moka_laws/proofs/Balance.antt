@@ -3,10 +3,11 @@ use Rattle.std.proofs.Common.{◌≡◌, ℕ, ◌+◌, ◌<◌, ◌≤◌, ◌==
 use Rattle.std.proofs.lemmas.List.{map-append}
 use Rattle.moka_hist.specs.Finite.{times}
 use Rattle.moka_hist.specs.State.{Stay, State, World, Call, DeskPart, Listed}
-use Rattle.moka_hist.specs.Plan.{Item, Aim, held_by, plan_of}
+use Rattle.moka_hist.specs.Plan.{Item, Aim, held_by, plan_of, lists_from}
 use Rattle.moka_hist.specs.Plan as plan
 use Rattle.moka_hist.specs.Visits.{number_of}
-use Rattle.moka_hist.specs.Next.{Next, goes, stays, gives}
+use Rattle.moka_hist.specs.declared.replies.Answer.TheVariants as reply
+use Rattle.moka_hist.specs.Next.{Next, goes, stays, gives, answers}
 use Rattle.moka_hist.specs.declared.records.Mode.{Mode}
 use Rattle.moka_hist.specs.declared.records.Mode.TheVariants as mode
 use Rattle.moka_hist.specs.Tables.{removed, written}
@@ -26,7 +27,8 @@ use Rattle.moka_laws.proofs.Outcomes.{taken_out}
 use Rattle.moka_laws.proofs.Posts.{any_post, once, among, among_owed, post_of, may_write, late, late_call, late_goes, late_none, posts_none, IsClear, keeps_clear, misses_clear, finds_clear, hits_clear, read_clear, told_clear, read_key_clear, told_op_clear}
 use Rattle.moka_laws.proofs.StepCases.{OnStep}
 use Rattle.moka_laws.proofs.Outcomes.{Outcomes, outcomes, passes_by}
-use Rattle.moka_laws.proofs.Walks.{walked, weigh_finds}
+use Rattle.moka_laws.proofs.Walks.{walked, weigh_finds, weigh_retiring}
+use Rattle.moka_hist.specs.Maintenance.{carrying}
 
 -- a number stands once more in a list with one more
 pub times_first : (x y : ℕ) (ys : List ℕ) → times x (y ∷ ys) ≡ once x y + times x ys
@@ -411,7 +413,9 @@ module _ {K V E : Type 0} where
     on_item (plan.Find key) rest e t sp = (
       (λ more. stays_put w n (plan.Find key ∷ rest) _ c e t sp mode.Mid turn.Going),
       (λ none. goes_on w n c (plan.Find key) rest refl refl (λ x. refl) (late_none rest t) (λ x. refl) (omega arith)),
-      λ k stored some. walks_put w n (plan.Find key ∷ rest) w.table.listings (decided_by n) (goes c (plan.Scan k stored ∷ rest)) t
+      (λ k stored some none. walks_put w n (plan.Find key ∷ rest) w.table.listings (decided_by n) (goes c (plan.Scan k stored ∷ rest)) t
+          (omega arith) (λ x. omega arith)),
+      λ k stored ids some is. walks_put w n (plan.Find key ∷ rest) w.table.listings (decided_by n) (goes c (plan.Strike k stored ∷ rest)) t
           (omega arith) (λ x. omega arith),
     )
     on_item (plan.Scan there stored) rest e t sp = (
@@ -419,6 +423,31 @@ module _ {K V E : Type 0} where
           (omega arith) (λ x. omega arith)),
       λ unseen. goes_on w n c (plan.Scan there stored) rest refl refl (λ x. refl) (late_none rest t) (λ x. refl) (omega arith),
     )
+    on_item (plan.Candidates parts) rest e t sp = (
+      (λ none. walks_put w n (plan.Candidates parts ∷ rest) w.table.listings w.stay (answers reply.Done) refl (omega arith)
+          (λ x. omega (arith, posts_none x rest t))),
+      λ id more some.
+          let lists : List (Item K V E) = lists_from 0 parts (plan.Retire ∷ []) in
+          let on : Call K V E = carrying c (id ∷ more) in
+          walks_put w n (plan.Candidates parts ∷ rest) w.table.listings w.stay (goes on lists)
+          (late_goes on lists ∙ late_none lists (weigh_retiring any_post (λ part. refl) refl parts))
+          (omega (arith, weigh_goes may_write on lists (λ a. refl), weigh_retiring {K = K} {V = V} {E = E} may_write (λ part. refl) refl parts))
+          (λ x. omega (
+            arith,
+            posts_none x rest t,
+            weigh_goes (post_of x) on lists (λ a. refl),
+            weigh_retiring {K = K} {V = V} {E = E} (post_of x) (λ part. refl) refl parts,
+          )),
+    )
+    on_item (plan.Strike there stored) rest e t sp =
+        goes_on w n (carrying c _) (plan.Strike there stored) rest refl refl (λ x. refl) (late_none rest t) (λ x. refl) (omega arith)
+    on_item plan.Retire rest e t sp = record {
+      last = refl;
+      tidy = refl;
+      spent = omega arith;
+      others = λ m h. refl;
+      balance = λ x. omega (arith, posts_none x rest t);
+    }
     on_item plan.Idle rest e t sp = goes_on w n c plan.Idle rest refl refl (λ x. refl)
         (late_none rest t) (λ x. refl) (omega arith)
     on_item plan.Invalidate_all rest e t sp = goes_on w n c plan.Invalidate_all rest refl refl

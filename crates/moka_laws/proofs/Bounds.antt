@@ -7,16 +7,16 @@ use Rattle.std.specs.Option.{option_map_or}
 use Rattle.std.specs.List.{AllByRecursion, IsDistinct}
 use Rattle.moka_hist.specs.Bound.{array_bound, does_walk, most_undecided, step_bound, table_share, times_of}
 use Rattle.moka_hist.specs.Finite.{put_at}
-use Rattle.moka_hist.specs.Next.{Next, goes}
+use Rattle.moka_hist.specs.Next.{Next, goes, answers, waits}
 use Rattle.moka_hist.specs.Places.{IsLawful}
-use Rattle.moka_hist.specs.Plan.{Item, walks}
+use Rattle.moka_hist.specs.Plan.{Item, walks, lists_from}
 use Rattle.moka_hist.specs.Plan as plan
 use Rattle.moka_hist.specs.Run.{Any, Divides, Goings, Happens, IsReached, Refuses, Run, Steps, reply_of}
 use Rattle.moka_hist.specs.State.{Call, Division, Listed, State, TablePart, World}
 use Rattle.moka_hist.specs.Step.{Gets, Step, access_for, access_of, next_of}
 use Rattle.moka_hist.specs.Tables.{GivesKeys, Operates, answer_of, begun, listed_now, taken_by}
-use Rattle.moka_hist.specs.Visits.{is_seen, settlement_for}
-use Rattle.moka_hist.specs.Walking.{after_find, after_list, after_scan}
+use Rattle.moka_hist.specs.Visits.{is_seen, settlement_for, candidates, struck}
+use Rattle.moka_hist.specs.Walking.{after_find, after_list, after_scan, judging}
 use Rattle.moka_hist.specs.Writing.{stamp_asked}
 use Rattle.moka_hist.specs.declared.accesses.Got.{Got}
 use Rattle.moka_hist.specs.declared.accesses.Got.TheVariants as got
@@ -41,12 +41,15 @@ use Rattle.moka_laws.proofs.Counted.{AreStored, IsCounted, all_more, reached_cou
 use Rattle.moka_laws.proofs.Counting.{none_some, put_here, some_same}
 use Rattle.moka_laws.proofs.NoWalks.{on_calm, walking}
 use Rattle.moka_laws.proofs.Reached.{steps_reached}
-use Rattle.moka_laws.proofs.StepCases.{step_cases}
+use Rattle.moka_laws.proofs.StepCases.{step_cases, by_plan}
 use Rattle.moka_laws.proofs.WalkPlans.{Above, Apart, Orderly, above_finds, all_in_turn, list_of, look_of, parts_differ}
 use Rattle.moka_laws.proofs.Walkers.{AreWalking, BegunBy, GoesWell, LeftWell, begun_named, in_walking, orderly_apart, part_begun}
-use Rattle.moka_laws.proofs.Walks.{Ends, Finds, IsWalk, Lists, Scans, finds_walk}
+use Rattle.moka_laws.proofs.Walks.{Ends, Finds, IsWalk, Lists, Scans, finds_walk, Applies, Applies_first, Chooses, Comes, Comes_not, Comes_on, Comes_to, Ends_first, Ends_turn, Gathers, Hears, IsComing, Posts, Retires, Strikes, Takes_turn, Turns, coming_walks, on_coming, retiring_walk}
 use Rattle.moka_laws.proofs.Ways.{calm_bounded, keys_peak, step_falls}
 use Rattle.moka_laws.proofs.Weights.{weigh, weigh_call}
+use Rattle.moka_hist.specs.Maintenance.{after_candidates, after_retire, after_strike, carrying}
+use Rattle.moka_bound.proofs.More.{post_worst}
+use Rattle.moka_laws.proofs.Outcomes.{on_desk}
 
 -- ---- lists of different keys
 
@@ -75,11 +78,27 @@ no_keys_of E (Some pair) = refl
 module _ {K V E : Type 0} (owed most aborts : ℕ) where
   -- each list and each look takes as many steps as its operation may stay undecided, and one or two
   walk_steps : (room : Bool) (l : ℕ) (ended : Bool) (p : List (Item K V E)) → IsWalk p → l ≤ most →
-      steps_of owed most aborts room l ended p ≤ weigh list_of p * (most + 1) + weigh look_of p * (most + 2) + 1
+      steps_of owed most aborts room l ended p ≤ weigh list_of p * (most + 1) + weigh look_of p * (most + 2) + 2
   walk_steps room l ended p Ends h = omega arith
+  walk_steps room l ended p Retires h = omega arith
+  walk_steps room l ended p (Chooses parts) h = omega arith
+  walk_steps room l ended p (Strikes there found rest walk) h = omega (arith, h, walk_steps false most true rest walk (omega arith))
   walk_steps room l ended p (Lists part rest walk) h = omega (arith, h, walk_steps false most true rest walk (omega arith))
   walk_steps room l ended p (Finds key rest walk) h = omega (arith, h, walk_steps false most true rest walk (omega arith))
   walk_steps room l ended p (Scans there found rest walk) h = omega (arith, h, walk_steps false most true rest walk (omega arith))
+
+  -- so it takes what comes before
+  coming_steps : (parts : ℕ) (room : Bool) (l : ℕ) (ended : Bool) (p : List (Item K V E)) → IsComing parts p →
+      steps_of owed most aborts room l ended p ≤ parts * (most + 1) + 8 * owed + 24
+  coming_steps parts room l ended p Gathers = omega (arith, post_worst room)
+  coming_steps parts room l ended p (Hears number held) = omega (arith, post_worst room)
+  coming_steps parts room l ended p (Posts held) = omega (arith, post_worst room)
+  coming_steps parts room l ended p (Takes_turn held) = omega (arith, post_worst room)
+  coming_steps parts room l ended p (Applies_first held) = omega (arith, post_worst room)
+  coming_steps parts room l ended p (Ends_first held) = omega (arith, post_worst room)
+  coming_steps parts room l ended p Turns = omega (arith, post_worst room)
+  coming_steps parts room l ended p Applies = omega (arith, post_worst room)
+  coming_steps parts room l ended p Ends_turn = omega (arith, post_worst room)
 
 module _ {K V : Type 0} where
   -- what the list in progress gives is counted: it stood begun in the first state, and may give as
@@ -235,7 +254,24 @@ module _ {K V E : Type 0} (eq : K → K → Bool) where
               omega (arith, few, b.sum, length-append b.given keys),
             )
 
+-- before its walk maintenance lists no part past any
+coming_above : {K V E : Type 0} (parts part : ℕ) (p : List (Item K V E)) → IsComing parts p → Above part p → ⊥
+coming_above parts part p Gathers h = h
+coming_above parts part p (Hears number held) h = h
+coming_above parts part p (Posts held) h = h
+coming_above parts part p (Takes_turn held) h = h
+coming_above parts part p (Applies_first held) h = h
+coming_above parts part p (Ends_first held) h = h
+coming_above parts part p Turns h = h
+coming_above parts part p Applies h = h
+coming_above parts part p Ends_turn h = h
+
 -- ---- a step of a walk that leaves it going
+
+-- the plan walks, or will once it has applied the log
+data IsGoing {K V E : Type 0} (p : List (Item K V E)) : Type 0 where
+  Goes_walk : IsWalk p → IsGoing p
+  Goes_to : (parts : ℕ) → IsComing parts p → IsGoing p
 
 module _ {K V E : Type 0} (eq : K → K → Bool) where
   -- what it leaves of a walk with this plan, where lists may then give so many keys
@@ -244,7 +280,7 @@ module _ {K V E : Type 0} (eq : K → K → Bool) where
     walked : walks p ≡ true
     call : Call K V E
     live : next.left ≡ Some call
-    walk : IsWalk call.plan
+    walk : IsGoing call.plan
     left : ℕ
     counts : Budget eq s n new.table call.plan left
     less : left + keys_in given ≤ budget
@@ -259,11 +295,17 @@ module _ {K V E : Type 0} (eq : K → K → Bool) where
         over : (goes c (plan.Reply said.End ∷ [])).turn ≡ turn.Going → ⊥
         over e = cc
     goes_leaves was walked c new given budget left p (Lists part rest walk) b less going =
-        record { walked = walked; call = _; live = refl; walk = Lists part rest walk; left = left; counts = b; less = less }
+        record { walked = walked; call = _; live = refl; walk = Goes_walk (Lists part rest walk); left = left; counts = b; less = less }
     goes_leaves was walked c new given budget left p (Finds key rest walk) b less going =
-        record { walked = walked; call = _; live = refl; walk = Finds key rest walk; left = left; counts = b; less = less }
+        record { walked = walked; call = _; live = refl; walk = Goes_walk (Finds key rest walk); left = left; counts = b; less = less }
     goes_leaves was walked c new given budget left p (Scans there stored rest walk) b less going =
-        record { walked = walked; call = _; live = refl; walk = Scans there stored rest walk; left = left; counts = b; less = less }
+        record { walked = walked; call = _; live = refl; walk = Goes_walk (Scans there stored rest walk); left = left; counts = b; less = less }
+    goes_leaves was walked c new given budget left p Retires b less going =
+        record { walked = walked; call = _; live = refl; walk = Goes_walk Retires; left = left; counts = b; less = less }
+    goes_leaves was walked c new given budget left p (Chooses parts) b less going =
+        record { walked = walked; call = _; live = refl; walk = Goes_walk (Chooses parts); left = left; counts = b; less = less }
+    goes_leaves was walked c new given budget left p (Strikes there stored rest walk) b less going =
+        record { walked = walked; call = _; live = refl; walk = Goes_walk (Strikes there stored rest walk); left = left; counts = b; less = less }
 
     -- an operation gives keys
     list_leaves : (c : Call K V E) (part : ℕ) (rest : List (Item K V E)) → IsWalk rest → (budget : ℕ) →
@@ -303,12 +345,21 @@ module _ {K V E : Type 0} (eq : K → K → Bool) where
         goes_leaves (plan.Find key ∷ rest) refl c new (got.Table (table.Decided answer.None)) budget budget rest walk
         (subst (λ v. Budget eq s n v rest budget) (sym is) (same_budget eq s n w.table counted divides (plan.Find key ∷ rest) rest budget (λ part h. h) b))
         (omega arith) going
-    find_leaves c key rest walk budget b (answer.Some there stored) new is going =
-        goes_leaves (plan.Find key ∷ rest) refl c new (got.Table (table.Decided (answer.Some there stored))) budget budget (plan.Scan there stored ∷ rest)
-        (Scans there stored rest walk)
-        (subst (λ v. Budget eq s n v (plan.Scan there stored ∷ rest) budget) (sym is)
-        (same_budget eq s n w.table counted divides (plan.Find key ∷ rest) (plan.Scan there stored ∷ rest) budget (λ part h. h) b))
-        (omega arith) going
+    find_leaves c key rest walk budget b (answer.Some there stored) new is going = by c.carried going
+      where
+        given : Got K V E
+        given = got.Table (table.Decided (answer.Some there stored))
+
+        by : (ids : Option (List (ℕ × ℕ))) → (goes c (judging ids there stored ∷ rest)).turn ≡ turn.Going →
+            Leaves s n (plan.Find key ∷ rest) new given budget (goes c (judging ids there stored ∷ rest))
+        by None e = goes_leaves (plan.Find key ∷ rest) refl c new given budget budget (plan.Scan there stored ∷ rest) (Scans there stored rest walk)
+            (subst (λ v. Budget eq s n v (plan.Scan there stored ∷ rest) budget) (sym is)
+            (same_budget eq s n w.table counted divides (plan.Find key ∷ rest) (plan.Scan there stored ∷ rest) budget (λ part h. h) b))
+            (omega arith) e
+        by (Some ids) e = goes_leaves (plan.Find key ∷ rest) refl c new given budget budget (plan.Strike there stored ∷ rest) (Strikes there stored rest walk)
+            (subst (λ v. Budget eq s n v (plan.Strike there stored ∷ rest) budget) (sym is)
+            (same_budget eq s n w.table counted divides (plan.Find key ∷ rest) (plan.Strike there stored ∷ rest) budget (λ part h. h) b))
+            (omega arith) e
     find_leaves c key rest walk budget b (answer.Keys keys) new is going = absurd (over going)
       where
         over : (after_find c rest (table.Decided (answer.Keys keys))).turn ≡ turn.Going → ⊥
@@ -329,56 +380,125 @@ module _ {K V E : Type 0} (eq : K → K → Bool) where
         (same_budget eq s n w.table counted divides (plan.Scan there stored ∷ rest) rest budget (λ part h. h) b))
         (omega arith) going
 
+    -- the predicates were chosen
+    choose_leaves : (c : Call K V E) (parts budget : ℕ) → Budget {E = E} eq s n w.table (plan.Candidates parts ∷ []) budget → (ids : List (ℕ × ℕ)) (new : World K V E) →
+        new.table ≡ w.table → (after_candidates c parts (found.Candidates ids)).turn ≡ turn.Going →
+        Leaves s n (plan.Candidates parts ∷ []) new (got.Desk (found.Candidates ids)) budget (after_candidates c parts (found.Candidates ids))
+    choose_leaves c parts budget b [] new is going = absurd (over going)
+      where
+        over : (after_candidates c parts (found.Candidates [])).turn ≡ turn.Going → ⊥
+        over e = cc
+    choose_leaves c parts budget b (id ∷ more) new is going =
+        goes_leaves (plan.Candidates parts ∷ []) refl (carrying c (id ∷ more)) new (got.Desk (found.Candidates (id ∷ more))) budget budget
+        (lists_from 0 parts (plan.Retire ∷ [])) (retiring_walk parts)
+        (subst (λ v. Budget {E = E} eq s n v (lists_from 0 parts (plan.Retire ∷ [])) budget) (sym is)
+        (same_budget eq s n w.table counted divides (plan.Candidates parts ∷ []) (lists_from 0 parts (plan.Retire ∷ [])) budget (λ part h. absurd h) b))
+        (omega arith) going
+
     -- what a step that leaves the walk going leaves
-    walk_leaves : (rules : Rules) (how : Mode) (p : List (Item K V E)) (aborts : ℕ) (given : Got K V E) (new : World K V E) (budget : ℕ) →
-        let c : Call K V E = record { rules = rules; mode = how; plan = p; aborts = aborts } in
+    walk_leaves : (rules : Rules) (how : Mode) (p : List (Item K V E)) (aborts : ℕ) (ids : Option (List (ℕ × ℕ))) (given : Got K V E) (new : World K V E) (budget : ℕ) →
+        let c : Call K V E = record { rules = rules; mode = how; plan = p; aborts = aborts; carried = ids } in
         IsWalk p → Apart eq w.table.division p → BegunBy (part_begun w.table n) (Some c) → Budget eq s n w.table p budget →
         Gets eq n w (access_of n c) given new → (next_of n c given).turn ≡ turn.Going → Leaves s n p new given budget (next_of n c given)
-    walk_leaves rules how p aborts (got.Desk f) new budget Ends apart begins b gets going = absurd (over going)
+    walk_leaves rules how p aborts ids (got.Desk f) new budget Ends apart begins b gets going = absurd (over going)
       where
-        over : (goes {K = K} {V = V} {E = E} (record { rules = rules; mode = how; plan = plan.Reply said.End ∷ []; aborts = aborts })
+        over : (goes {K = K} {V = V} {E = E} (record { rules = rules; mode = how; plan = plan.Reply said.End ∷ []; aborts = aborts; carried = ids })
             (plan.Reply said.End ∷ [])).turn ≡ turn.Going → ⊥
         over e = cc
-    walk_leaves rules how p aborts (got.Table turned) new budget Ends apart begins b gets going = absurd gets
-    walk_leaves rules how p aborts (got.Table table.Going) new budget (Lists part rest walk) apart begins b gets going = record {
+    walk_leaves rules how p aborts ids (got.Table turned) new budget Ends apart begins b gets going = absurd gets
+    walk_leaves rules how p aborts ids (got.Table table.Going) new budget (Lists part rest walk) apart begins b gets going = record {
       walked = refl;
       call = _;
       live = refl;
-      walk = Lists part rest walk;
+      walk = Goes_walk (Lists part rest walk);
       left = budget;
       counts = subst (λ (v : World K V E). Budget eq s n v.table (plan.List_keys part ∷ rest) budget) (sym gets.1)
           (begun_budget eq s n w.table counted divides part (plan.List_keys part ∷ rest) budget b);
       less = omega arith;
     }
-    walk_leaves rules how p aborts (got.Table (table.Decided answer)) new budget (Lists part rest walk) apart begins b gets going =
-        let c : Call K V E = record { rules = rules; mode = how; plan = plan.List_keys part ∷ rest; aborts = aborts } in
+    walk_leaves rules how p aborts ids (got.Table (table.Decided answer)) new budget (Lists part rest walk) apart begins b gets going =
+        let c : Call K V E = record { rules = rules; mode = how; plan = plan.List_keys part ∷ rest; aborts = aborts; carried = ids } in
         list_leaves c part rest walk budget b apart.0 (begun_named w.table n c part rest refl begins) answer gets.0 gets.1 new
         (ap (λ (v : World K V E). v.table) gets.2) going
-    walk_leaves rules how p aborts (got.Desk f) new budget (Lists part rest walk) apart begins b gets going = absurd gets
-    walk_leaves rules how p aborts (got.Table table.Going) new budget (Finds key rest walk) apart begins b gets going = record {
+    walk_leaves rules how p aborts ids (got.Desk f) new budget (Lists part rest walk) apart begins b gets going = absurd gets
+    walk_leaves rules how p aborts ids (got.Table table.Going) new budget (Finds key rest walk) apart begins b gets going = record {
       walked = refl;
       call = _;
       live = refl;
-      walk = Finds key rest walk;
+      walk = Goes_walk (Finds key rest walk);
       left = budget;
       counts = subst (λ (v : World K V E). Budget eq s n v.table (plan.Find key ∷ rest) budget) (sym gets.1) b;
       less = omega arith;
     }
-    walk_leaves rules how p aborts (got.Table (table.Decided answer)) new budget (Finds key rest walk) apart begins b gets going =
-        find_leaves (record { rules = rules; mode = how; plan = plan.Find key ∷ rest; aborts = aborts }) key rest walk budget b answer new
+    walk_leaves rules how p aborts ids (got.Table (table.Decided answer)) new budget (Finds key rest walk) apart begins b gets going =
+        find_leaves (record { rules = rules; mode = how; plan = plan.Find key ∷ rest; aborts = aborts; carried = ids }) key rest walk budget b answer new
         (ap (λ (v : World K V E). v.table) gets.2 ∙ gets.1.1) going
-    walk_leaves rules how p aborts (got.Desk f) new budget (Finds key rest walk) apart begins b gets going = absurd gets
-    walk_leaves rules how p aborts (got.Desk f) new budget (Scans there stored rest walk) apart begins b gets going =
-        let c : Call K V E = record { rules = rules; mode = how; plan = plan.Scan there stored ∷ rest; aborts = aborts } in
+    walk_leaves rules how p aborts ids (got.Desk f) new budget (Finds key rest walk) apart begins b gets going = absurd gets
+    walk_leaves rules how p aborts ids (got.Desk f) new budget (Scans there stored rest walk) apart begins b gets going =
+        let c : Call K V E = record { rules = rules; mode = how; plan = plan.Scan there stored ∷ rest; aborts = aborts; carried = ids } in
         subst (λ v. Leaves s n (plan.Scan there stored ∷ rest) new (got.Desk v) budget (after_scan c there stored rest v)) (sym gets.0)
         (scan_leaves c there stored rest walk budget b (is_seen w.desk None there stored) new (ap (λ (v : World K V E). v.table) gets.1)
         (subst (λ v. (after_scan c there stored rest v).turn ≡ turn.Going) gets.0 going))
-    walk_leaves rules how p aborts (got.Table turned) new budget (Scans there stored rest walk) apart begins b gets going = absurd gets
+    walk_leaves rules how p aborts ids (got.Table turned) new budget (Scans there stored rest walk) apart begins b gets going = absurd gets
+    walk_leaves rules how p aborts ids (got.Desk f) new budget Retires apart begins b gets going =
+        absurd (over (subst (λ v. (after_retire {K = K} {V = V} {E = E} (record { rules = rules; mode = how; plan = plan.Retire ∷ []; aborts = aborts; carried = ids }) v).turn ≡ turn.Going) gets.0 going))
+      where
+        over : (answers {K = K} {V = V} {E = E} said.Done).turn ≡ turn.Going → ⊥
+        over e = cc
+    walk_leaves rules how p aborts ids (got.Table turned) new budget Retires apart begins b gets going = absurd gets
+    walk_leaves rules how p aborts ids (got.Desk f) new budget (Chooses parts) apart begins b gets going =
+        let c : Call K V E = record { rules = rules; mode = how; plan = plan.Candidates parts ∷ []; aborts = aborts; carried = ids } in
+        subst (λ v. Leaves s n (plan.Candidates parts ∷ []) new (got.Desk v) budget (after_candidates c parts v)) (sym gets.0)
+        (choose_leaves c parts budget b (candidates w.desk) new (ap (λ (v : World K V E). v.table) gets.1)
+        (subst (λ v. (after_candidates c parts v).turn ≡ turn.Going) gets.0 going))
+    walk_leaves rules how p aborts ids (got.Table turned) new budget (Chooses parts) apart begins b gets going = absurd gets
+    walk_leaves rules how p aborts ids (got.Desk f) new budget (Strikes there stored rest walk) apart begins b gets going =
+        let c : Call K V E = record { rules = rules; mode = how; plan = plan.Strike there stored ∷ rest; aborts = aborts; carried = ids } in
+        let left : List (ℕ × ℕ) = struck w.desk (unwrap_or ids []) there stored in
+        subst (λ v. Leaves s n (plan.Strike there stored ∷ rest) new (got.Desk v) budget (after_strike c rest v)) (sym gets.0)
+        (goes_leaves (plan.Strike there stored ∷ rest) refl (carrying c left) new (got.Desk (found.Strike left)) budget budget rest walk
+        (subst (λ v. Budget eq s n v rest budget) (sym (ap (λ (v : World K V E). v.table) gets.1))
+        (same_budget eq s n w.table counted divides (plan.Strike there stored ∷ rest) rest budget (λ part h. h) b))
+        (omega arith) (subst (λ v. (after_strike c rest v).turn ≡ turn.Going) gets.0 going))
+    walk_leaves rules how p aborts ids (got.Table turned) new budget (Strikes there stored rest walk) apart begins b gets going = absurd gets
+
+    -- maintenance comes closer to its walk
+    comes_leaves : (parts : ℕ) (c : Call K V E) → IsComing parts c.plan → (given : Got K V E) → keys_in given ≡ 0 → (new : World K V E) (budget : ℕ) →
+        Budget eq s n new.table c.plan budget → (next : Next K V E) → Comes parts c next → next.turn ≡ turn.Going → Leaves s n c.plan new given budget next
+    comes_leaves parts c coming given none new budget b next (Comes_on rest more) going = by more
+      where
+        on : (q : List (Item K V E)) → IsComing parts q → Budget eq s n new.table q budget
+        on q to = same_budget eq s n new.table counted divides c.plan q budget (λ part h. absurd (coming_above parts part c.plan coming h)) b
+
+        by : {q : List (Item K V E)} → IsComing parts q → Leaves s n c.plan new given budget (goes c q)
+        by Gathers = record { walked = coming_walks parts c.plan coming; call = _; live = refl; walk = Goes_to parts Gathers; left = budget; counts = on _ Gathers; less = omega (arith, none) }
+        by (Hears number held) = record { walked = coming_walks parts c.plan coming; call = _; live = refl; walk = Goes_to parts (Hears number held); left = budget; counts = on _ (Hears number held); less = omega (arith, none) }
+        by (Posts held) = record { walked = coming_walks parts c.plan coming; call = _; live = refl; walk = Goes_to parts (Posts held); left = budget; counts = on _ (Posts held); less = omega (arith, none) }
+        by (Takes_turn held) = record { walked = coming_walks parts c.plan coming; call = _; live = refl; walk = Goes_to parts (Takes_turn held); left = budget; counts = on _ (Takes_turn held); less = omega (arith, none) }
+        by (Applies_first held) = record { walked = coming_walks parts c.plan coming; call = _; live = refl; walk = Goes_to parts (Applies_first held); left = budget; counts = on _ (Applies_first held); less = omega (arith, none) }
+        by (Ends_first held) = record { walked = coming_walks parts c.plan coming; call = _; live = refl; walk = Goes_to parts (Ends_first held); left = budget; counts = on _ (Ends_first held); less = omega (arith, none) }
+        by Turns = record { walked = coming_walks parts c.plan coming; call = _; live = refl; walk = Goes_to parts Turns; left = budget; counts = on _ Turns; less = omega (arith, none) }
+        by Applies = record { walked = coming_walks parts c.plan coming; call = _; live = refl; walk = Goes_to parts Applies; left = budget; counts = on _ Applies; less = omega (arith, none) }
+        by Ends_turn = record { walked = coming_walks parts c.plan coming; call = _; live = refl; walk = Goes_to parts Ends_turn; left = budget; counts = on _ Ends_turn; less = omega (arith, none) }
+    comes_leaves parts c coming given none new budget b next Comes_to going = record {
+      walked = coming_walks parts c.plan coming;
+      call = _;
+      live = refl;
+      walk = Goes_walk (Chooses parts);
+      left = budget;
+      counts = same_budget eq s n new.table counted divides c.plan (plan.Candidates parts ∷ []) budget
+          (λ part h. absurd (coming_above parts part c.plan coming h)) b;
+      less = omega (arith, none);
+    }
+    comes_leaves parts c coming given none new budget b next Comes_not going = absurd (over going)
+      where
+        over : (waits c).turn ≡ turn.Going → ⊥
+        over e = cc
 
 -- ---- all steps
 
 few_ahead : (lists looks keys peak owed log steps : ℕ) → lists ≤ 64 → looks ≤ 128 + 3 * peak → keys ≤ peak →
-    steps ≤ lists * (16 * (128 + 3 * peak) + 32 + 1) + looks * (16 * (128 + 3 * peak) + 32 + 2) + 1 →
+    steps ≤ lists * (16 * (128 + 3 * peak) + 32 + 1) + looks * (16 * (128 + 3 * peak) + 32 + 2) + 8 * owed + 24 →
     (128 + 3 * peak + keys) * (16 * (128 + 3 * peak) + 32 + 2) + (log + steps) <
     64 * (4 + (64 * (128 + 3 * peak) + (128 + 3 * peak) * (128 + 3 * peak)) + owed + log)
 few_ahead lists looks keys peak owed log steps few look most is =
@@ -391,17 +511,19 @@ few_ahead lists looks keys peak owed log steps few look most is =
     omega arith
 
 module _ {K V E : Type 0} where
-  -- a walk's items are lists and looks
-  walks_count : (p : List (Item K V E)) → IsWalk p → weigh list_of p + weigh look_of p ≡ weigh walking p
-  walks_count p Ends = refl
-  walks_count p (Lists part rest walk) = let h = walks_count rest walk in omega arith
-  walks_count p (Finds key rest walk) = let h = walks_count rest walk in omega arith
-  walks_count p (Scans there stored rest walk) = let h = walks_count rest walk in omega arith
-
   walks_some : (p : List (Item K V E)) → walks p ≡ true → 0 < weigh walking p
   walks_some (plan.List_keys part ∷ rest) h = omega arith
   walks_some (plan.Find key ∷ rest) h = omega arith
   walks_some (plan.Scan there stored ∷ rest) h = omega arith
+  walks_some (plan.Candidates parts ∷ rest) h = omega arith
+  walks_some (plan.Strike there stored ∷ rest) h = omega arith
+  walks_some (plan.Retire ∷ rest) h = omega arith
+  walks_some (plan.Drain ∷ rest) h = let e = walks_some rest h in omega (arith, e)
+  walks_some (plan.Ended number ∷ rest) h = let e = walks_some rest h in omega (arith, e)
+  walks_some (plan.Post write ∷ rest) h = let e = walks_some rest h in omega (arith, e)
+  walks_some (plan.Turn ∷ rest) h = let e = walks_some rest h in omega (arith, e)
+  walks_some (plan.Apply ∷ rest) h = let e = walks_some rest h in omega (arith, e)
+  walks_some (plan.End ∷ rest) h = let e = walks_some rest h in omega (arith, e)
   walks_some [] h = absurd (by h)
     where
       by : false ≡ true → ⊥
@@ -414,6 +536,18 @@ module _ {K V E : Type 0} where
   -- a walk that lists, looks up and judges nothing has no item of a walk
   over_calm : (p : List (Item K V E)) → IsWalk p → walks p ≡ false → weigh walking p ≡ 0
   over_calm p Ends h = refl
+  over_calm p Retires h = absurd (by h)
+    where
+      by : true ≡ false → ⊥
+      by e = cc
+  over_calm p (Chooses parts) h = absurd (by h)
+    where
+      by : true ≡ false → ⊥
+      by e = cc
+  over_calm p (Strikes there stored rest walk) h = absurd (by h)
+    where
+      by : true ≡ false → ⊥
+      by e = cc
   over_calm p (Lists part rest walk) h = absurd (by h)
     where
       by : true ≡ false → ⊥
@@ -430,31 +564,59 @@ module _ {K V E : Type 0} where
 module _ {K V E : Type 0} (eq : K → K → Bool) where
   calm_plan : (t : TablePart K V) (p : List (Item K V E)) → GoesWell eq t p → walks p ≡ false → weigh walking p ≡ 0
   calm_plan t p (inl calm) h = calm
-  calm_plan t p (inr walk) h = over_calm p walk.0 h
+  calm_plan t p (inr (inl walk)) h = over_calm p walk.0 h
+  calm_plan t p (inr (inr coming)) h = absurd (both (sym (coming_walks coming.0 p coming.1) ∙ h))
+    where
+      both : true ≡ false → ⊥
+      both e = cc
 
-  walk_plan : (t : TablePart K V) (p : List (Item K V E)) → GoesWell eq t p → walks p ≡ true → IsWalk p × Orderly eq t p
+  -- few lists and few looks are to come
+  data Walking (t : TablePart K V) (p : List (Item K V E)) : Type 0 where
+    Now : IsWalk p → Orderly eq t p → Walking t p
+    Later : (parts : ℕ) → IsComing parts p → parts ≡ t.division.parts → Walking t p
+
+  walk_plan : (t : TablePart K V) (p : List (Item K V E)) → GoesWell eq t p → walks p ≡ true → Walking t p
   walk_plan t p (inl calm) h = absurd (omega (arith, calm, walks_some p h))
-  walk_plan t p (inr walk) h = walk
+  walk_plan t p (inr (inl walk)) h = Now walk.0 walk.1
+  walk_plan t p (inr (inr coming)) h = Later coming.0 coming.1 coming.2
+
+  goes_by : (t : TablePart K V) (p : List (Item K V E)) → Walking t p → IsGoing p
+  goes_by t p (Now walk o) = Goes_walk walk
+  goes_by t p (Later parts coming same) = Goes_to parts coming
 
   -- an access that lists nothing gives no keys
-  gives_none : (n : ℕ) (w new : World K V E) (item : Item K V E) (g : Got K V E) → walking item ≡ 0 → Gets eq n w (access_for n item) g new → keys_in g ≡ 0
-  gives_none n w new item (got.Desk f) none gets = refl
-  gives_none n w new item (got.Table table.Going) none gets = refl
-  gives_none n w new (plan.Get aim key) (got.Table (table.Decided answer)) none gets =
+  gives_none : (n : ℕ) (ids : Option (List (ℕ × ℕ))) (w new : World K V E) (item : Item K V E) (g : Got K V E) → walking item ≡ 0 →
+      Gets eq n w (access_for n ids item) g new → keys_in g ≡ 0
+  gives_none n ids w new item (got.Desk f) none gets = refl
+  gives_none n ids w new item (got.Table table.Going) none gets = refl
+  gives_none n ids w new (plan.Get aim key) (got.Table (table.Decided answer)) none gets =
       subst (λ v. keys_in {E = E} (got.Table (table.Decided v)) ≡ 0) (sym gets.1.0) (no_keys_of E (w.table.stored key))
-  gives_none n w new (plan.Write key value moment) (got.Table (table.Decided answer)) none gets =
+  gives_none n ids w new (plan.Write key value moment) (got.Table (table.Decided answer)) none gets =
       subst (λ v. keys_in {E = E} (got.Table (table.Decided v)) ≡ 0) (sym gets.1.0) (no_keys_of E (w.table.stored key))
-  gives_none n w new (plan.Out removal key) (got.Table (table.Decided answer)) none gets =
+  gives_none n ids w new (plan.Out removal key) (got.Table (table.Decided answer)) none gets =
       subst (λ v. keys_in {E = E} (got.Table (table.Decided v)) ≡ 0) (sym gets.1.0) (no_keys_of E (taken_by (stamp_asked removal) (w.table.stored key)))
-  gives_none n w new (plan.List_keys part) (got.Table (table.Decided answer)) none gets = absurd (omega (arith, none))
-  gives_none n w new (plan.Find key) (got.Table (table.Decided answer)) none gets = absurd (omega (arith, none))
-  gives_none n w new _ (got.Table (table.Decided answer)) none gets = absurd gets
+  gives_none n ids w new (plan.List_keys part) (got.Table (table.Decided answer)) none gets = absurd (omega (arith, none))
+  gives_none n ids w new (plan.Find key) (got.Table (table.Decided answer)) none gets = absurd (omega (arith, none))
+  gives_none n ids w new _ (got.Table (table.Decided answer)) none gets = absurd gets
 
-  calm_gives : (n : ℕ) (w new : World K V E) (rules : Rules) (how : Mode) (p : List (Item K V E)) (aborts : ℕ) (g : Got K V E) → weigh walking p ≡ 0 →
-      Gets eq n w (access_of n (record { rules = rules; mode = how; plan = p; aborts = aborts })) g new → keys_in g ≡ 0
-  calm_gives n w new rules how [] aborts (got.Desk f) calm gets = refl
-  calm_gives n w new rules how [] aborts (got.Table turned) calm gets = absurd gets
-  calm_gives n w new rules how (item ∷ rest) aborts g calm gets = gives_none n w new item g (omega (arith, calm)) gets
+  calm_gives : (n : ℕ) (w new : World K V E) (rules : Rules) (how : Mode) (p : List (Item K V E)) (aborts : ℕ) (ids : Option (List (ℕ × ℕ))) (g : Got K V E) → weigh walking p ≡ 0 →
+      Gets eq n w (access_of n (record { rules = rules; mode = how; plan = p; aborts = aborts; carried = ids })) g new → keys_in g ≡ 0
+  calm_gives n w new rules how [] aborts ids (got.Desk f) calm gets = refl
+  calm_gives n w new rules how [] aborts ids (got.Table turned) calm gets = absurd gets
+  calm_gives n w new rules how (item ∷ rest) aborts ids g calm gets = gives_none n ids w new item g (omega (arith, calm)) gets
+
+  coming_gives : (n parts : ℕ) (w new : World K V E) (rules : Rules) (how : Mode) (p : List (Item K V E)) (aborts : ℕ) (ids : Option (List (ℕ × ℕ)))
+      (g : Got K V E) → IsComing parts p → Gets eq n w (access_of n (record { rules = rules; mode = how; plan = p; aborts = aborts; carried = ids })) g new →
+      keys_in g ≡ 0
+  coming_gives n parts w new rules how p aborts ids g Gathers gets = gives_none n ids w new plan.Drain g refl gets
+  coming_gives n parts w new rules how p aborts ids g (Hears number held) gets = gives_none n ids w new (plan.Ended number) g refl gets
+  coming_gives n parts w new rules how p aborts ids g (Posts held) gets = gives_none n ids w new (plan.Post held) g refl gets
+  coming_gives n parts w new rules how p aborts ids g (Takes_turn held) gets = gives_none n ids w new plan.Turn g refl gets
+  coming_gives n parts w new rules how p aborts ids g (Applies_first held) gets = gives_none n ids w new plan.Apply g refl gets
+  coming_gives n parts w new rules how p aborts ids g (Ends_first held) gets = gives_none n ids w new plan.End g refl gets
+  coming_gives n parts w new rules how p aborts ids g Turns gets = gives_none n ids w new plan.Turn g refl gets
+  coming_gives n parts w new rules how p aborts ids g Applies gets = gives_none n ids w new plan.Apply g refl gets
+  coming_gives n parts w new rules how p aborts ids g Ends_turn gets = gives_none n ids w new plan.End g refl gets
 
   module _ (laws : IsEquivalence eq) where
     -- ---- a call that doesn't walk
@@ -477,7 +639,7 @@ module _ {K V E : Type 0} (eq : K → K → Bool) where
         let same : before.0 ≡ st.call = some_same (sym before.1 ∙ st.live) in
         let quiet : weigh walking st.call.plan ≡ 0 = subst (λ (v : Call K V E). weigh walking v.plan ≡ 0) same before.2 in
         let none : keys_in st.given ≡ 0 =
-        calm_gives n going.0.world st.world st.call.rules st.call.mode st.call.plan st.call.aborts st.given quiet st.gets in
+        calm_gives n going.0.world st.world st.call.rules st.call.mode st.call.plan st.call.aborts st.call.carried st.given quiet st.gets in
         let last = step_falls eq going.0 t n 0 0 before.0 (steps_reached eq Any k s going.0 n h going.1) before.1 st (λ e. refl) (omega (arith, none)) in (
           last.0,
           last.1,
@@ -487,9 +649,39 @@ module _ {K V E : Type 0} (eq : K → K → Bool) where
 
     -- ---- a walk
 
-    walk_going : (k : ℕ) (s t : State K V E) (n : ℕ) (c : Call K V E) → IsReached eq s → s.calls n ≡ Some c → IsWalk c.plan →
+    -- what a step of a call with such a plan leaves
+    going_leaves : (s mid t : State K V E) (n budget : ℕ) → IsReached eq s → IsReached eq mid → (st : Step eq mid n turn.Going t) → IsGoing st.call.plan →
+        Budget eq s.world.table n mid.world.table st.call.plan budget →
+        Leaves eq s.world.table n st.call.plan st.world st.given budget (next_of n st.call st.given)
+    going_leaves s mid t n budget h reached st (Goes_walk walk) b =
+        let i : AreWalking eq mid = in_walking eq laws mid reached in
+        walk_leaves eq s.world.table n (reached_counted eq laws s h) (in_walking eq laws s h).divides mid.world
+        st.call.rules st.call.mode st.call.plan st.call.aborts st.call.carried st.given st.world budget walk
+        (orderly_apart eq mid.world.table st.call.plan walk (live_well mid.world.table (mid.calls n) st.call st.live (i.well n)))
+        (subst (BegunBy (part_begun mid.world.table n)) st.live (i.begun n)) b st.gets (sym st.turns)
+      where
+        live_well : (u : TablePart K V) (o : Option (Call K V E)) (d : Call K V E) → o ≡ Some d → LeftWell eq u o → GoesWell eq u d.plan
+        live_well u o d e h = subst (LeftWell eq u) e h
+    going_leaves s mid t n budget h reached st (Goes_to parts coming) b =
+        by_plan eq (λ v next. next.turn ≡ turn.Going → Leaves eq s.world.table n st.call.plan v st.given budget next) mid.world n
+        st.call.rules st.call.mode st.call.plan st.call.aborts st.call.carried st.given st.world st.gets
+        (on_coming eq (λ v next. next.turn ≡ turn.Going → Leaves eq s.world.table n st.call.plan v st.given budget next) mid.world n st.call parts
+        st.call.plan coming
+        (λ d spares next comes. comes_leaves eq s.world.table n (reached_counted eq laws s h) (in_walking eq laws s h).divides mid.world parts st.call
+        coming st.given
+        (coming_gives n parts mid.world st.world st.call.rules st.call.mode st.call.plan st.call.aborts st.call.carried st.given coming st.gets)
+        (on_desk eq mid.world d) budget b next comes))
+        (sym st.turns)
+
+    -- the call that a step leaves is the one that is live after it
+    same_left : (mid t : State K V E) (n : ℕ) (st : Step eq mid n turn.Going t) (b d : Call K V E) →
+        (next_of n st.call st.given).left ≡ Some b → t.calls n ≡ Some d → b ≡ d
+    same_left mid t n st b d left live =
+        some_same (sym left ∙ sym (put_here mid.calls n (next_of n st.call st.given).left) ∙ sym (ap (λ (v : State K V E). v.calls n) st.after) ∙ live)
+
+    walk_going : (k : ℕ) (s t : State K V E) (n : ℕ) (c : Call K V E) → IsReached eq s → s.calls n ≡ Some c → IsGoing c.plan →
         Goings eq Any k s n t →
-        (d : Call K V E) × (b : ℕ) × (t.calls n ≡ Some d) × IsWalk d.plan × Budget eq s.world.table n t.world.table d.plan b ×
+        (d : Call K V E) × (b : ℕ) × (t.calls n ≡ Some d) × IsGoing d.plan × Budget eq s.world.table n t.world.table d.plan b ×
         (k + ahead (work_in n b t.world) d ≤ ahead (work_in n (array_bound s.world.table + s.world.table.keys) s.world) c)
     unfolding Goings
     walk_going zero s t n c h live walk going =
@@ -500,23 +692,16 @@ module _ {K V E : Type 0} (eq : K → K → Bool) where
         let reached : IsReached eq mid = steps_reached eq Any k s mid n h going.1 in
         let st : Step eq mid n turn.Going t = going.2 in
         let same : before.0 ≡ st.call = some_same (sym before.2 ∙ st.live) in
-        let i : AreWalking eq mid = in_walking eq laws mid reached in
-        let is_walk : IsWalk st.call.plan = subst (λ (v : Call K V E). IsWalk v.plan) same before.3 in
         let l : Leaves eq s.world.table n st.call.plan st.world st.given before.1 (next_of n st.call st.given) =
-        walk_leaves eq s.world.table n (reached_counted eq laws s h) (in_walking eq laws s h).divides mid.world
-        st.call.rules st.call.mode st.call.plan st.call.aborts st.given st.world before.1 is_walk
-        (orderly_apart eq mid.world.table st.call.plan is_walk (live_well mid.world.table (mid.calls n) st.call st.live (i.well n)))
-        (subst (BegunBy (part_begun mid.world.table n)) st.live (i.begun n))
-        (subst (λ (v : Call K V E). Budget eq s.world.table n mid.world.table v.plan before.1) same before.4) st.gets (sym st.turns) in
+        going_leaves s mid t n before.1 h reached st (subst (λ (v : Call K V E). IsGoing v.plan) same before.3)
+        (subst (λ (v : Call K V E). Budget eq s.world.table n mid.world.table v.plan before.1) same before.4) in
         let last = step_falls eq mid t n before.1 l.left before.0 reached before.2 st
         (λ e. absurd (true_not (sym l.walked ∙ ap (λ (v : Call K V E). walks v.plan) (sym same) ∙ e))) l.less in
-        let left : l.call ≡ last.0 =
-        some_same (sym l.live ∙ sym (put_here mid.calls n (next_of n st.call st.given).left) ∙
-        sym (ap (λ (v : State K V E). v.calls n) st.after) ∙ last.1) in (
+        let left : l.call ≡ last.0 = same_left mid t n st l.call last.0 l.live last.1 in (
           last.0,
           l.left,
           last.1,
-          subst (λ (v : Call K V E). IsWalk v.plan) left l.walk,
+          subst (λ (v : Call K V E). IsGoing v.plan) left l.walk,
           subst (λ (v : Call K V E). Budget eq s.world.table n t.world.table v.plan l.left) left
               (subst (λ (v : State K V E). Budget eq s.world.table n v.world.table l.call.plan l.left) (sym st.after) l.counts),
           omega (arith, before.5, last.2),
@@ -525,20 +710,30 @@ module _ {K V E : Type 0} (eq : K → K → Bool) where
         true_not : true ≡ false → ⊥
         true_not e = cc
 
-        live_well : (u : TablePart K V) (o : Option (Call K V E)) (d : Call K V E) → o ≡ Some d → LeftWell eq u o → GoesWell eq u d.plan
-        live_well u o d e h = subst (LeftWell eq u) e h
-
-    walk_bounded : (s : State K V E) (n : ℕ) (c : Call K V E) → IsReached eq s → s.calls n ≡ Some c → IsWalk c.plan → Orderly eq s.world.table c.plan →
+    walk_bounded : (s : State K V E) (n : ℕ) (c : Call K V E) → IsReached eq s → s.calls n ≡ Some c → Walking s.world.table c.plan →
         ahead (work_in n (array_bound s.world.table + s.world.table.keys) s.world) c <
         64 * (4 + table_share s.world.table true + length s.world.desk.owed + length s.world.desk.log)
-    walk_bounded s n c h live walk o =
-        let most = most_undecided s.world.table in
-        few_ahead (weigh list_of c.plan) (weigh look_of c.plan) s.world.table.keys s.world.table.peak (length s.world.desk.owed) (length s.world.desk.log)
-        (steps_of (length s.world.desk.owed) most c.aborts (nat_lt (length s.world.desk.log) s.world.desk.size)
-        (most - times_of s.world.stay n) (is_some (settlement_for s.world.desk n)) c.plan)
-        o.lists o.looks (keys_peak eq s h)
-        (walk_steps (length s.world.desk.owed) most c.aborts (nat_lt (length s.world.desk.log) s.world.desk.size)
-        (most - times_of s.world.stay n) (is_some (settlement_for s.world.desk n)) c.plan walk (omega arith))
+    walk_bounded s n c h live walking = by walking
+      where
+        most : ℕ
+        most = most_undecided s.world.table
+
+        takes : ℕ
+        takes = steps_of (length s.world.desk.owed) most c.aborts (nat_lt (length s.world.desk.log) s.world.desk.size)
+            (most - times_of s.world.stay n) (is_some (settlement_for s.world.desk n)) c.plan
+
+        by : Walking s.world.table c.plan → ahead (work_in n (array_bound s.world.table + s.world.table.keys) s.world) c <
+            64 * (4 + table_share s.world.table true + length s.world.desk.owed + length s.world.desk.log)
+        by (Now walk o) =
+            let few = walk_steps (length s.world.desk.owed) most c.aborts (nat_lt (length s.world.desk.log) s.world.desk.size)
+            (most - times_of s.world.stay n) (is_some (settlement_for s.world.desk n)) c.plan walk (omega arith) in
+            few_ahead (weigh list_of c.plan) (weigh look_of c.plan) s.world.table.keys s.world.table.peak (length s.world.desk.owed) (length s.world.desk.log)
+            takes o.lists o.looks (keys_peak eq s h) (omega (arith, few))
+        by (Later parts coming same) =
+            let few = coming_steps (length s.world.desk.owed) most c.aborts parts (nat_lt (length s.world.desk.log) s.world.desk.size)
+            (most - times_of s.world.stay n) (is_some (settlement_for s.world.desk n)) c.plan coming in
+            few_ahead parts 0 s.world.table.keys s.world.table.peak (length s.world.desk.owed) (length s.world.desk.log)
+            takes (omega (arith, same, (in_walking eq laws s h).divides.few)) (omega arith) (keys_peak eq s h) (omega (arith, few))
 
     none_left : (k : ℕ) (s t : State K V E) (n : ℕ) → s.calls n ≡ None → Goings eq Any k s n t → k ≡ 0
     unfolding Goings
@@ -556,17 +751,18 @@ module _ {K V E : Type 0} (eq : K → K → Bool) where
         does c e = ap (λ (o : Option (Call K V E)). option_map_or (λ d. walks d.plan) o false) e
 
         so : (c : Call K V E) → s.calls n ≡ Some c → (b : Bool) → walks c.plan ≡ b →
-            k < 64 * (4 + table_share s.world.table b + length s.world.desk.owed + length s.world.desk.log)
+            k < 64 * (4 + table_share s.world.table b + length s.world.desk.owed + length s.world.desk.log + length s.world.desk.registered)
         so c e false w =
             let calm = calm_plan s.world.table c.plan (subst (LeftWell eq s.world.table) e ((in_walking eq laws s h).well n)) w in
             omega (arith, (calm_going k s t n c h e calm going).3, calm_bounded eq s n c h e w)
         so c e true w =
             let walk = walk_plan s.world.table c.plan (subst (LeftWell eq s.world.table) e ((in_walking eq laws s h).well n)) w in
-            omega (arith, (walk_going k s t n c h e walk.0 going).5, walk_bounded s n c h e walk.0 walk.1)
+            omega (arith, (walk_going k s t n c h e (goes_by s.world.table c.plan walk) going).5, walk_bounded s n c h e walk)
 
         by : (o : Option (Call K V E)) → s.calls n ≡ o → k < step_bound s n
         by None e = omega (arith, none_left k s t n e going)
-        by (Some c) e = subst (λ b. k < 64 * (4 + table_share s.world.table b + length s.world.desk.owed + length s.world.desk.log))
+        by (Some c) e = subst
+            (λ b. k < 64 * (4 + table_share s.world.table b + length s.world.desk.owed + length s.world.desk.log + length s.world.desk.registered))
             (sym (does c e)) (so c e (walks c.plan) refl)
 
     -- ---- events

@@ -4,7 +4,7 @@ use Rattle.std.proofs.lemmas.Bool.{false≢true}
 use Rattle.std.specs.Prelude.{Contains}
 use Rattle.moka_hist.specs.Finite.{times}
 use Rattle.moka_hist.specs.State.{State, World, Call, TablePart}
-use Rattle.moka_hist.specs.Plan.{Item, Aim, held_by, is_disabled, plan_of}
+use Rattle.moka_hist.specs.Plan.{Item, Aim, held_by, is_disabled, plan_of, lists_from}
 use Rattle.moka_hist.specs.Plan as plan
 use Rattle.moka_hist.specs.Next.{Next, goes}
 use Rattle.moka_hist.specs.Looking.{finds_pair, hits, keeps, misses}
@@ -42,7 +42,8 @@ use Rattle.moka_laws.proofs.StepCases.{OnStep, step_cases}
 use Rattle.moka_laws.proofs.Outcomes.{Outcomes, outcomes, passes_on}
 use Rattle.moka_hist.specs.declared.loads.Compute.{Compute}
 use Rattle.moka_hist.specs.Computing.{after_told_op, after_read_key}
-use Rattle.moka_laws.proofs.Walks.{weigh_finds}
+use Rattle.moka_laws.proofs.Walks.{weigh_finds, weigh_retiring}
+use Rattle.moka_hist.specs.Maintenance.{carrying}
 
 none_in : {A : Type 0} (xs : List A) (x : A) → xs ≡ [] → Contains xs x → ⊥
 none_in xs x e h = let k = subst (λ v. Contains v x) e h in omega (arith, k.1)
@@ -257,13 +258,26 @@ module _ {K V E : Type 0} where
     on_item (plan.Find key) rest q = (
       λ more. record { empty = empty; calm = p },
       λ none. goes_on rest empty (omega (arith, q)),
-      λ there seen some. record { empty = empty; calm = omega (arith, q) },
+      λ there seen some none. record { empty = empty; calm = omega (arith, q) },
+      λ there seen ids some is. record { empty = empty; calm = omega (arith, q) },
     )
     on_item (plan.Scan there found) rest q = (
       λ seen. record { empty = empty; calm = omega (arith, q) },
       λ unseen. goes_on rest empty (omega (arith, q)),
     )
     on_item (plan.Register test) rest q = record { empty = empty; calm = refl }
+    on_item (plan.Candidates parts) rest q = (
+      λ none. record { empty = empty; calm = refl },
+      λ id more some.
+          let lists : List (Item K V E) = lists_from 0 parts (plan.Retire ∷ []) in
+          record {
+            empty = empty;
+            calm = weigh_goes stores (carrying c (id ∷ more)) lists (λ a. refl) ∙ weigh_retiring stores (λ part. refl) refl parts;
+          },
+    )
+    on_item (plan.Strike there found) rest q =
+        record { empty = empty; calm = weigh_goes stores (carrying c _) rest (λ a. refl) ∙ omega (arith, q) }
+    on_item plan.Retire rest q = record { empty = empty; calm = refl }
     on_item (plan.Reply a) rest q = record { empty = empty; calm = refl }
     on_item item rest q = passes_on eq Leaves w n c item rest tt
         (λ d. goes_on rest empty (omega (arith, q))) (record { empty = empty; calm = p })

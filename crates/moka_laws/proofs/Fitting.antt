@@ -5,7 +5,7 @@ use Rattle.moka_hist.specs.Conditions.{may_end}
 use Rattle.moka_hist.specs.Dropping.{dropped}
 use Rattle.moka_hist.specs.Finite.{put_at}
 use Rattle.moka_hist.specs.State.{State, World, Call, DeskPart}
-use Rattle.moka_hist.specs.Plan.{Item, Aim, Removal, plan_of}
+use Rattle.moka_hist.specs.Plan.{Item, Aim, Removal, plan_of, lists_from}
 use Rattle.moka_hist.specs.Writing.{said}
 use Rattle.moka_hist.specs.Plan as plan
 use Rattle.moka_hist.specs.Next.{Next, goes}
@@ -45,7 +45,8 @@ use Rattle.moka_laws.proofs.Outcomes.{Outcomes, outcomes, computes_of, passes_by
 use Rattle.moka_hist.specs.declared.loads.Compute.{Compute}
 use Rattle.moka_hist.specs.Computing.{after_read_key, after_told_op}
 use Rattle.moka_hist.specs.declared.replies.Answer.{Answer}
-use Rattle.moka_laws.proofs.Walks.{weigh_walk, walk_is_walk}
+use Rattle.moka_laws.proofs.Walks.{weigh_walk, walk_is_walk, weigh_retiring}
+use Rattle.moka_hist.specs.Maintenance.{carrying}
 
 -- what is owned, if anything, is of this kind
 abbrev pub OwnsKind : {K : Type 0} → Option (Load K) → Kind → Type 0
@@ -257,7 +258,7 @@ module _ {K V E : Type 0} where
   fresh_free : (rules : Rules) (p : List (Item K V E)) → IsFresh rules p → weigh owners p ≡ 0
   fresh_free rules p (Takes_out (plan.To_remove_as_told own) key off named) = absurd named
   fresh_free rules p (Locks_and_takes_out (plan.To_remove_as_told own) key on named) = absurd named
-  fresh_free rules p (Walks_over parts able) = weigh_walk owners (record { list = λ part. refl; find = λ key. refl; scan = λ there stored. refl; end = refl }) p (walk_is_walk 0 parts)
+  fresh_free rules p (Walks_over parts able) = weigh_walk owners (record { list = λ part. refl; find = λ key. refl; scan = λ there stored. refl; end = refl; choose = λ parts. refl; strike = λ there stored. refl; retire = refl }) p (walk_is_walk 0 parts)
   fresh_free rules p _ = refl
 
   -- ---- a step
@@ -387,9 +388,16 @@ module _ {K V E : Type 0} where
     on_item (plan.List_keys part) rest q t f =
         ((λ more. as_was refl p), λ listed keys e gives. goes_on (map plan.Find keys ++ rest) refl (keys_fit _ keys rest q.1))
     on_item (plan.Find key) rest q t f =
-        ((λ more. as_was refl p), (λ none. goes_on rest refl q.1), λ k stored some. as_was refl (tt, q.1))
+        ((λ more. as_was refl p), (λ none. goes_on rest refl q.1), (λ k stored some none. as_was refl (tt, q.1)), λ k stored ids some is. as_was refl (tt, q.1))
     on_item (plan.Scan there stored) rest q t f = ((λ seen. as_was refl q.1), λ unseen. goes_on rest refl q.1)
     on_item (plan.Register test) rest q t f = as_was refl tt
+    on_item (plan.Candidates parts) rest q t f = (
+      (λ none. as_was refl tt),
+      λ id more some. as_was refl (goes_fit _ (carrying c (id ∷ more)) (lists_from 0 parts (plan.Retire ∷ []))
+          (none_fit _ (lists_from 0 parts (plan.Retire ∷ [])) (weigh_retiring owners (λ part. refl) refl parts))),
+    )
+    on_item (plan.Strike there stored) rest q t f = as_was refl (goes_fit _ (carrying c _) rest q.1)
+    on_item plan.Retire rest q t f = as_was refl tt
     on_item (plan.Reply a) rest q t f = as_was refl tt
     on_item item rest q t f = passes_by eq (Leaves w n) w n c item rest tt
         (λ d a. goes_on rest a.owning q.1) (as_was refl p)

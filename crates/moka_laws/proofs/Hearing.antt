@@ -220,10 +220,14 @@ module _ {K V E : Type 0} where
       on_item (plan.Find key) rest = (
         (λ more. same refl refl refl),
         (λ none. same refl refl refl),
-        λ q stored some. same refl refl refl,
+        (λ q stored some none. same refl refl refl),
+        λ q stored ids some is. same refl refl refl,
       )
       on_item (plan.Scan there stored) rest = ((λ seen. same refl refl refl), λ unseen. same refl refl refl)
       on_item (plan.Register test) rest = same refl refl refl
+      on_item (plan.Candidates parts) rest = ((λ none. same refl refl refl), λ id more some. same refl refl refl)
+      on_item (plan.Strike there stored) rest = same refl refl refl
+      on_item plan.Retire rest = same refl refl refl
       on_item (plan.Reply a) rest = same refl refl refl
       on_item (plan.Notice key old cause upsert) rest =
           (λ e. same refl refl refl, λ e. same refl refl refl)

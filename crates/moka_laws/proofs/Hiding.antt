@@ -1,5 +1,5 @@
 -- What an invalidation of all hides stays hidden.
-use Rattle.std.proofs.Common.{◌≡◌, ℕ, ◌≤◌, ◌<◌, max, nat_lt, not, Bool, true, false, ◌&&◌, ◌||◌, List, [], ◌∷◌, Some, None, unwrap_or, refl, sym, ap, ◌∙◌, subst, arith}
+use Rattle.std.proofs.Common.{◌≡◌, ℕ, ◌≤◌, ◌<◌, max, nat_lt, not, Bool, true, false, ◌&&◌, ◌||◌, List, [], ◌∷◌, Some, None, unwrap_or, refl, sym, ap, ◌∙◌, subst, arith, Option}
 use Rattle.std.proofs.lemmas.Bool.Decides.{nat_tests}
 use Rattle.moka_hist.specs.State.{State, Call, DeskPart}
 use Rattle.moka_hist.specs.Plan.{Item}
@@ -73,16 +73,16 @@ module _ {K V E : Type 0} (eq : K → K → Bool) (n : ℕ) where
       let is : step.call.plan ≡ plan.Invalidate_all ∷ plan.Reply answer.Done ∷ [] =
       subst (HoldsIf IsHiding s) step.live i.1 in
       let base = step_base eq s t n r step in (
-        base.valid ∙ by step.call.rules step.call.mode step.call.plan step.call.aborts is,
+        base.valid ∙ by step.call.rules step.call.mode step.call.plan step.call.aborts step.call.carried is,
         base.clock,
       )
     where
-      by : (rules : Rules) (mode : Mode) (p : List (Item K V E)) (aborts : ℕ) →
+      by : (rules : Rules) (mode : Mode) (p : List (Item K V E)) (aborts : ℕ) (ids : Option (List (ℕ × ℕ))) →
           p ≡ plan.Invalidate_all ∷ plan.Reply answer.Done ∷ [] →
           valid_from s.world (access_of n (record
-          { rules = rules; mode = mode; plan = p; aborts = aborts })) ≡ Some s.world.desk.clock
-      by rules mode p aborts e = subst (λ q. valid_from s.world (access_of n (record
-          { rules = rules; mode = mode; plan = q; aborts = aborts })) ≡ Some s.world.desk.clock)
+          { rules = rules; mode = mode; plan = p; aborts = aborts; carried = ids })) ≡ Some s.world.desk.clock
+      by rules mode p aborts ids e = subst (λ q. valid_from s.world (access_of n (record
+          { rules = rules; mode = mode; plan = q; aborts = aborts; carried = ids })) ≡ Some s.world.desk.clock)
           (sym e) refl
 
 module _ {K V E : Type 0} (eq : K → K → Bool) (k : ℕ) where

@@ -4,7 +4,7 @@ use Rattle.std.proofs.lemmas.Bool.{eqb-true}
 use Rattle.std.specs.Option.{option_map}
 use Rattle.moka_hist.specs.Finite.{put_at, times}
 use Rattle.moka_hist.specs.State.{State, World, Call, DeskPart}
-use Rattle.moka_hist.specs.Plan.{Change, Item, Aim, held_by, plan_of}
+use Rattle.moka_hist.specs.Plan.{Change, Item, Aim, held_by, plan_of, lists_from}
 use Rattle.moka_hist.specs.Plan as plan
 use Rattle.moka_hist.specs.Visits.{number_of, without_moment}
 use Rattle.moka_laws.specs.Held.{MayAllLeave}
@@ -46,7 +46,8 @@ use Rattle.moka_laws.proofs.StepCases.{OnStep, step_cases}
 use Rattle.moka_laws.proofs.Outcomes.{Outcomes, outcomes}
 use Rattle.moka_hist.specs.declared.loads.Compute.{Compute}
 use Rattle.moka_hist.specs.Computing.{after_told_op, after_read_key}
-use Rattle.moka_laws.proofs.Walks.{weigh_finds, weigh_walk, walk_is_walk}
+use Rattle.moka_laws.proofs.Walks.{weigh_finds, weigh_walk, walk_is_walk, weigh_retiring}
+use Rattle.moka_hist.specs.Maintenance.{carrying}
 
 -- the call holds the place of a write of its own
 abbrev IsOwn : Option Holding → Type 0
@@ -135,7 +136,7 @@ module _ {K V E : Type 0} where
   fresh_free : (rules : Rules) (p : List (Item K V E)) → IsFresh rules p → weigh held p ≡ 0
   fresh_free rules p (Disabled a d plain) = refl
   fresh_free rules p (Walks_over parts able) =
-      weigh_walk held (record { list = λ part. refl; find = λ key. refl; scan = λ there stored. refl; end = refl }) p (walk_is_walk 0 parts)
+      weigh_walk held (record { list = λ part. refl; find = λ key. refl; scan = λ there stored. refl; end = refl; choose = λ parts. refl; strike = λ there stored. refl; retire = refl }) p (walk_is_walk 0 parts)
   fresh_free rules p _ = refl
 
   stays_weighs : (c : Call K V E) → weigh_call held (stays c).left ≡ 0
@@ -347,6 +348,15 @@ module _ {K V E : Type 0} where
     on_item plan.Invalidate_all rest p q =
         keeps w.desk n (goes_holds n _ c rest (free_holds n _ rest q.1 q.0))
     on_item (plan.Register test) rest p q = keeps w.desk n q.0
+    on_item (plan.Candidates parts) rest p q = (
+      (λ none. keeps w.desk n q.0),
+      λ id more some. keeps w.desk n
+          (goes_holds n _ (carrying c (id ∷ more)) (lists_from 0 parts (plan.Retire ∷ []))
+          (free_holds n _ (lists_from 0 parts (plan.Retire ∷ [])) (weigh_retiring held (λ part. refl) refl parts) q.0)),
+    )
+    on_item (plan.Strike there stored) rest p q =
+        keeps w.desk n (goes_holds n _ (carrying c _) rest (free_holds n _ rest q.1 q.0))
+    on_item plan.Retire rest p q = keeps w.desk n q.0
     on_item (plan.List_keys part) rest p q = (
       (λ more. keeps w.desk n p),
       λ listed keys e gives. keeps w.desk n
@@ -356,7 +366,8 @@ module _ {K V E : Type 0} where
     on_item (plan.Find key) rest p q = (
       (λ more. keeps w.desk n p),
       (λ none. keeps w.desk n (goes_holds n _ c rest (free_holds n _ rest q.1 q.0))),
-      λ k stored some. keeps w.desk n (q.0, q.1),
+      (λ k stored some none. keeps w.desk n (q.0, q.1)),
+      λ k stored ids some is. keeps w.desk n (q.0, q.1),
     )
     on_item (plan.Scan there stored) rest p q = (
       (λ seen. keeps w.desk n (free_holds n _ rest q.1 q.0)),

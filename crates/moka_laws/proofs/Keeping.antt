@@ -4,7 +4,7 @@ use Rattle.std.proofs.lemmas.Bool.{eqb-true, false≢true}
 use Rattle.std.specs.Prelude.{IsSomeAnd}
 use Rattle.moka_hist.specs.Visits.{registering}
 use Rattle.moka_hist.specs.Invalidating.{registering_answer}
-use Rattle.moka_hist.specs.Plan.{or_insert_plan, seek}
+use Rattle.moka_hist.specs.Plan.{or_insert_plan, seek, lists_from}
 use Rattle.moka_hist.specs.Finite.{put_at}
 use Rattle.moka_hist.specs.State.{State, World, Call}
 use Rattle.moka_hist.specs.Plan.{Item, Aim, Removal, get_plan, insert_plan, is_disabled, load_plan, plan_of, under_lock}
@@ -41,7 +41,8 @@ use Rattle.moka_laws.proofs.Outcomes.{Outcomes, outcomes, passes_on}
 use Rattle.moka_hist.specs.declared.loads.Compute.{Compute}
 use Rattle.moka_hist.specs.Computing.{after_told_op, after_read_key}
 use Rattle.moka_hist.specs.Entries.{put_answer}
-use Rattle.moka_laws.proofs.Walks.{weigh_finds, weigh_walk, walk_is_walk}
+use Rattle.moka_laws.proofs.Walks.{weigh_finds, weigh_walk, walk_is_walk, weigh_retiring}
+use Rattle.moka_hist.specs.Maintenance.{carrying}
 
 -- 1 where the answer is that the record was kept
 abbrev kept : {K V E : Type 0} → Answer K V E → ℕ
@@ -217,7 +218,7 @@ module _ {K V E : Type 0} where
   form_calm : (rules : Rules) (p : List (Item K V E)) → IsFresh rules p → weigh keeping p ≡ 0
   form_calm rules p (Disabled a d once) = omega (arith, once_kept a once)
   form_calm rules p (Gives_back a d once) = omega (arith, once_kept a once)
-  form_calm rules p (Walks_over parts able) = weigh_walk keeping (record { list = λ part. refl; find = λ key. refl; scan = λ there stored. refl; end = refl }) p (walk_is_walk 0 parts)
+  form_calm rules p (Walks_over parts able) = weigh_walk keeping (record { list = λ part. refl; find = λ key. refl; scan = λ there stored. refl; end = refl; choose = λ parts. refl; strike = λ there stored. refl; retire = refl }) p (walk_is_walk 0 parts)
   form_calm rules p _ = refl
 
 module _ {K V E : Type 0} (s : State K V E) where
@@ -470,12 +471,20 @@ module _ {K V E : Type 0} (s : State K V E) where
       on_item (plan.Find key) rest q = (
         λ more. quiet (plan.Find key) _ (λ h. h) (record { left = p; turn = λ f. cc }),
         λ none. quiet (plan.Find key) _ (λ h. h) (goes_quiet c rest (omega (arith, q))),
-        λ there seen some. quiet (plan.Find key) _ (λ h. h) (record { left = omega (arith, q); turn = λ f. cc }),
+        λ there seen some none. quiet (plan.Find key) _ (λ h. h) (record { left = omega (arith, q); turn = λ f. cc }),
+        λ there seen ids some is. quiet (plan.Find key) _ (λ h. h) (record { left = omega (arith, q); turn = λ f. cc }),
       )
       on_item (plan.Scan there found) rest q = (
         λ seen. quiet (plan.Scan there found) _ (λ h. h) (record { left = omega (arith, q); turn = λ f. cc }),
         λ unseen. quiet (plan.Scan there found) _ (λ h. h) (goes_quiet c rest (omega (arith, q))),
       )
+      on_item (plan.Candidates parts) rest q = (
+        λ none. quiet (plan.Candidates parts) _ (λ h. h) (record { left = refl; turn = answers_quiet answer.Done refl }),
+        λ id more some. quiet (plan.Candidates parts) _ (λ h. h)
+            (goes_quiet (carrying c (id ∷ more)) (lists_from 0 parts (plan.Retire ∷ [])) (weigh_retiring keeping (λ part. refl) refl parts)),
+      )
+      on_item (plan.Strike there found) rest q = quiet (plan.Strike there found) _ (λ h. h) (goes_quiet (carrying c _) rest (omega (arith, q)))
+      on_item plan.Retire rest q = quiet plan.Retire _ (λ h. h) (record { left = refl; turn = answers_quiet answer.Done refl })
       on_item (plan.Register test) rest q = quiet (plan.Register test) _ (λ h. h) (record {
         left = refl;
         turn = answers_quiet (registering_answer (registering s.world.desk))

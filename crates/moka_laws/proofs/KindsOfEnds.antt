@@ -269,13 +269,19 @@ module _ {K V E : Type 0} where
           let idle = idle_by (plan.Find key) rest e refl in (
             λ more. same refl refl refl idle,
             λ none. same refl refl refl idle,
-            λ k stored some. same refl refl refl idle,
+            λ k stored some none. same refl refl refl idle,
+            λ k stored ids some is. same refl refl refl idle,
           )
       on_item (plan.Scan there stored) rest e =
           let idle = idle_by (plan.Scan there stored) rest e refl in
           (λ seen. same refl refl refl idle, λ unseen. same refl refl refl idle)
       on_item (plan.Register test) rest e =
           same refl refl refl (idle_by (plan.Register test) rest e refl)
+      on_item (plan.Candidates parts) rest e =
+          let idle = idle_by (plan.Candidates parts) rest e refl in
+          (λ none. same refl refl refl idle, λ id more some. same refl refl refl idle)
+      on_item (plan.Strike there stored) rest e = same refl refl refl (idle_by (plan.Strike there stored) rest e refl)
+      on_item plan.Retire rest e = same refl refl refl (idle_by plan.Retire rest e refl)
       on_item (plan.Reply a) rest e =
           same refl refl refl (idle_by (plan.Reply a) rest e refl)
       on_item (plan.Notice key old cause upsert) rest e =

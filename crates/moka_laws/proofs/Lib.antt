@@ -92,3 +92,11 @@ pub mod Hiding
 pub mod FollowingIn
 pub mod WalksKeep
 pub mod WalksAlone
+pub mod Laden
+pub mod Naming
+pub mod Bearing
+pub mod Striking
+pub mod Unstepped
+pub mod StayHit
+pub mod Draining
+pub mod Hits

@@ -4,7 +4,7 @@ use Rattle.std.proofs.lemmas.Bool.{eqb-true, false≢true}
 use Rattle.moka_hist.specs.declared.replies.Answer.TheVariants as reply
 use Rattle.moka_hist.specs.Finite.{put_at}
 use Rattle.moka_hist.specs.State.{State, World, Call, DeskPart}
-use Rattle.moka_hist.specs.Plan.{end_load, Item, Aim, Removal, plan_of, told_on}
+use Rattle.moka_hist.specs.Plan.{end_load, Item, Aim, Removal, plan_of, told_on, lists_from}
 use Rattle.moka_hist.specs.Plan as plan
 use Rattle.moka_hist.specs.Next.{Next, goes}
 use Rattle.moka_hist.specs.Looking.{hits, misses, keeps as stays, finds_pair}
@@ -41,7 +41,8 @@ use Rattle.moka_hist.specs.Computing.{end_compute}
 use Rattle.moka_hist.specs.Writing.{cause_handed, nothing_answer, removed_answer}
 use Rattle.moka_hist.specs.declared.writes.Write.TheVariants.{Remove}
 use Rattle.moka_laws.proofs.Rules.{said_next}
-use Rattle.moka_laws.proofs.Walks.{weigh_walk, weigh_finds, walk_is_walk}
+use Rattle.moka_laws.proofs.Walks.{weigh_walk, weigh_finds, walk_is_walk, weigh_retiring}
+use Rattle.moka_hist.specs.Maintenance.{carrying}
 
 true_false : true ≡ false → ⊥
 true_false e = false≢true (sym e)
@@ -187,6 +188,11 @@ module _ {K V E : Type 0} where
 
     goes_on : (rest : List (Item K V E)) → Locks d.rules.listener (d.locked n) rest → Leaves d n c d.rules d.locked (goes c rest).left
     goes_on rest q = keeps (goes_rules c rest) (goes_locks d.rules.listener (d.locked n) c rest q)
+
+    -- so where it carries predicates
+    goes_as : (ids : List (ℕ × ℕ)) (rest : List (Item K V E)) → Locks d.rules.listener (d.locked n) rest →
+        Leaves d n c d.rules d.locked (goes (carrying c ids) rest).left
+    goes_as ids rest q = keeps (goes_rules (carrying c ids) rest) (goes_locks d.rules.listener (d.locked n) (carrying c ids) rest q)
 
     either : (b : Bool) (x y : Next K V E) → Leaves d n c d.rules d.locked x.left → Leaves d n c d.rules d.locked y.left →
         Leaves d n c d.rules d.locked (cond b x y).left
@@ -540,13 +546,23 @@ module _ {K V E : Type 0} where
     on_item (plan.Find key) rest p q = (
       (λ more. keeps w.desk n c refl p),
       (λ none. goes_on w.desk n c rest (like _ _ q (λ h. omega arith) (λ h. calm_outside rest h) (λ k i. absurd i))),
-      λ k stored some. keeps w.desk n c refl (like _ _ q (λ h. omega arith) (λ h. h) (λ k i. absurd i)),
+      (λ k stored some none. keeps w.desk n c refl (like _ _ q (λ h. omega arith) (λ h. h) (λ k i. absurd i))),
+      λ k stored ids some is. keeps w.desk n c refl (like _ _ q (λ h. omega arith) (λ h. h) (λ k i. absurd i)),
     )
     on_item (plan.Scan there stored) rest p q = (
       (λ seen. keeps w.desk n c refl (like _ _ q (λ h. omega arith) (λ h. calm_outside rest h) (λ k i. absurd i))),
       λ unseen. goes_on w.desk n c rest (like _ _ q (λ h. omega arith) (λ h. calm_outside rest h) (λ k i. absurd i)),
     )
     on_item (plan.Register test) rest p q = keeps w.desk n c tt (free _ refl q (λ k i. i))
+    on_item (plan.Candidates parts) rest p q = (
+      (λ none. keeps w.desk n c tt (free _ refl q (λ k i. i))),
+      λ id more some. goes_as w.desk n c (id ∷ more) (lists_from 0 parts (plan.Retire ∷ []))
+          (like _ _ q (λ h. weigh_retiring of_key (λ part. refl) refl parts)
+          (λ h. calm_outside (lists_from 0 parts (plan.Retire ∷ [])) (weigh_retiring of_lock (λ part. refl) refl parts)) (λ k i. absurd i)),
+    )
+    on_item (plan.Strike there stored) rest p q =
+        goes_as w.desk n c _ rest (like _ _ q (λ h. omega arith) (λ h. calm_outside rest h) (λ k i. absurd i))
+    on_item plan.Retire rest p q = keeps w.desk n c tt (free _ refl q (λ k i. i))
     on_item (plan.Reply a) rest p q = keeps w.desk n c tt (free _ refl q (λ k i. i))
     on_item _ rest p q = goes_on w.desk n c rest (like _ _ q (λ h. omega arith) (λ h. calm_outside rest h) (λ k i. absurd i))
 
@@ -601,8 +617,8 @@ module _ {K V E : Type 0} where
   fresh_form rules p (Locks_and_evicts key stamp cause on) =
       starts_locked rules.listener _ on (refl, refl, refl)
   fresh_form rules p (Walks_over parts able) =
-      starts rules.listener p (weigh_walk of_key (record { list = λ part. refl; find = λ key. refl; scan = λ there stored. refl; end = refl }) p (walk_is_walk 0 parts))
-      (λ e. calm_outside p (weigh_walk of_lock (record { list = λ part. refl; find = λ key. refl; scan = λ there stored. refl; end = refl }) p (walk_is_walk 0 parts)))
+      starts rules.listener p (weigh_walk of_key (record { list = λ part. refl; find = λ key. refl; scan = λ there stored. refl; end = refl; choose = λ parts. refl; strike = λ there stored. refl; retire = refl }) p (walk_is_walk 0 parts))
+      (λ e. calm_outside p (weigh_walk of_lock (record { list = λ part. refl; find = λ key. refl; scan = λ there stored. refl; end = refl; choose = λ parts. refl; strike = λ there stored. refl; retire = refl }) p (walk_is_walk 0 parts)))
   fresh_form rules p _ = starts rules.listener _ refl (λ e. refl)
 
   fresh_locks : (parts : ℕ) (rules : Rules) (start : Start K V) → Locks rules.listener None (plan_of parts rules start)

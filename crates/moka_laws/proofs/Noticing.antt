@@ -39,7 +39,7 @@ use Rattle.moka_laws.proofs.Weights.{weigh_call}
 use Rattle.moka_laws.proofs.Posts.{once, among, among_owed, post_of, posts_held}
 use Rattle.moka_laws.proofs.Balance.{times_first, times_last}
 use Rattle.moka_laws.proofs.Owning.{plan_left}
-use Rattle.moka_laws.proofs.Plans.{IsTail, Answering, Settling, IsDrained, Looking, Putting, IsPosted, Draining, Ended, Locking, IsPlan, Posted, Drained, Posting, Hearing, Noticing, Listening, Unlocking, Turning, Applying, Ending, Judging, Owning, Giving, Reading, Asking, Telling, Writing, IsLook, Removing, Locking_out, Choosing, Finding, Chosen, Taking, Freeing, Hiding, Registering, Idling, Asking_op, Owning_key, Owning_alone, Reading_key, Telling_op, Walking}
+use Rattle.moka_laws.proofs.Plans.{IsTail, Answering, Settling, IsDrained, Looking, Putting, IsPosted, Draining, Ended, Locking, IsPlan, Posted, Drained, Posting, Hearing, Noticing, Listening, Unlocking, Turning, Applying, Ending, Judging, Owning, Giving, Reading, Asking, Telling, Writing, IsLook, Removing, Locking_out, Choosing, Finding, Chosen, Taking, Freeing, Hiding, Registering, Idling, Asking_op, Owning_key, Owning_alone, Reading_key, Telling_op, Walking, Maintaining, Applying_all, Ending_all}
 use Rattle.moka_laws.proofs.Replacing.{IsReplacing, replacing_kept, not_opened}
 use Rattle.moka_laws.proofs.Rules.{abort_next, put_plans, loaded_plans, kept_next, chosen_next, IsFresh, Disabled, fresh_plan, read_key_next, told_op_next, Walks_over}
 use Rattle.moka_laws.proofs.Kept.{IsInvariant, in_reached}
@@ -47,7 +47,8 @@ use Rattle.moka_laws.proofs.StepCases.{OnStep, step_cases}
 use Rattle.moka_laws.proofs.Outcomes.{outcomes}
 use Rattle.moka_hist.specs.declared.loads.Compute.{Compute}
 use Rattle.moka_hist.specs.Computing.{after_told_op, after_read_key}
-use Rattle.moka_laws.proofs.Walks.{Ends, Finds, IsWalk, Lists, Scans, Walks, Walks_giving, Walks_on, Walks_still, on_walk, walk_is_walk}
+use Rattle.moka_laws.proofs.Walks.{Ends, Finds, IsWalk, Lists, Scans, Walks, Walks_giving, Walks_on, Walks_still, on_walk, walk_is_walk, Chooses, Retires, Strikes, Walks_carrying, Walks_free}
+use Rattle.moka_hist.specs.Maintenance.{carrying}
 
 -- ---- notices that are heard
 
@@ -176,6 +177,9 @@ module _ {K V E : Type 0} where
 
   pub walk_none : (n : ℕ) (p : List (Item K V E)) → IsWalk p → naming n p ≡ None
   walk_none n p Ends = refl
+  walk_none n p Retires = refl
+  walk_none n p (Chooses parts) = refl
+  walk_none n p (Strikes there stored rest walk) = refl
   walk_none n p (Lists part rest walk) = refl
   walk_none n p (Finds key rest walk) = refl
   walk_none n p (Scans there stored rest walk) = refl
@@ -183,12 +187,18 @@ module _ {K V E : Type 0} where
   -- nor does a walk hear a notice
   walk_quiet : (n : ℕ) (p : List (Item K V E)) → IsWalk p → hearing n p ≡ None
   walk_quiet n p Ends = refl
+  walk_quiet n p Retires = refl
+  walk_quiet n p (Chooses parts) = refl
+  walk_quiet n p (Strikes there stored rest walk) = refl
   walk_quiet n p (Lists part rest walk) = refl
   walk_quiet n p (Finds key rest walk) = refl
   walk_quiet n p (Scans there stored rest walk) = refl
 
   goes_none : (n : ℕ) (c : Call K V E) (p : List (Item K V E)) → IsWalk p → naming n (plan_left (goes c p).left) ≡ None
   goes_none n c p Ends = refl
+  goes_none n c p Retires = refl
+  goes_none n c p (Chooses parts) = refl
+  goes_none n c p (Strikes there stored rest walk) = refl
   goes_none n c p (Lists part rest walk) = refl
   goes_none n c p (Finds key rest walk) = refl
   goes_none n c p (Scans there stored rest walk) = refl
@@ -198,6 +208,8 @@ module _ {K V E : Type 0} where
   walks_none n c none next (Walks_on rest walk) = goes_none n c rest walk
   walks_none n c none next Walks_still = none
   walks_none n c none next (Walks_giving key value rest walk) = walk_none n rest walk
+  walks_none n c none next (Walks_carrying ids rest walk) = goes_none n (carrying c ids) rest walk
+  walks_none n c none next Walks_free = refl
 
   pub form_none : (n : ℕ) (rules : Rules) (p : List (Item K V E)) → IsFresh rules p → naming n p ≡ None
   form_none n rules p (Disabled a d plain) = refl
@@ -369,6 +381,8 @@ module _ {K V E : Type 0} where
     on_drained p e (Locking_out removal key) =
         outcomes eq (Made p) w n c (plan.Lock key) (plan.Moment (plan.To_take_out removal key) ∷ [])
         ((λ free. plain w.desk n o t p _ refl refl), λ held. plain w.desk n o t p _ refl (ap (naming n) e))
+    on_drained p e (Maintaining parts) = outcomes eq (Made p) w n c plan.Turn (plan.Apply ∷ plan.End ∷ plan.Candidates parts ∷ [])
+        ((λ free. plain w.desk n o t p _ refl refl), λ taken. plain w.desk n o t p _ refl (ap (naming n) e))
 
     on_posted : (p : List (Item K V E)) → c.plan ≡ p → IsPosted p → OnStep eq (Made p) w n c p
     on_posted p e (Draining rest d) = outcomes eq (Made p) w n c plan.Drain rest (
@@ -505,7 +519,10 @@ module _ {K V E : Type 0} where
     on_plan p e h (Walking rest walk) = on_walk eq (Made p) w n c rest walk
         (λ listings stay next on. plain w.desk n o t p _ (walk_quiet n p walk)
         (walks_none n c (ap (naming n) e ∙ walk_none n p walk) next on))
-        (plain w.desk n o t p _ (walk_quiet n p walk) refl)
+        (plain w.desk n o t p _ (walk_quiet n p walk) refl) (λ ids. plain w.desk n o t p _ (walk_quiet n p walk) refl)
+    on_plan p e h (Applying_all parts) = outcomes eq (Made p) w n c plan.Apply (plan.End ∷ plan.Candidates parts ∷ [])
+        ((λ none. plain w.desk n o t p _ refl refl), λ y ys some. plain w.desk n o t p _ refl refl)
+    on_plan p e h (Ending_all parts) = outcomes eq (Made p) w n c plan.End (plan.Candidates parts ∷ []) (plain w.desk n o t p _ refl refl)
     on_plan p e h (Idling rest q) = outcomes eq (Made p) w n c plan.Idle rest
         (plain w.desk n o t p _ refl (tail_none n c rest q))
 

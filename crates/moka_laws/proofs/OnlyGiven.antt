@@ -1,6 +1,6 @@
 -- Whatever is stored and handed out was given. What is fair here, of a plan, a desk or a table, is
 -- to store only what was given, and to hand out only what was given for an equal key.
-use Rattle.std.proofs.Common.{◌≡◌, ℕ, ◌+◌, ◌==◌, Bool, true, false, cond, ◌&&◌, nat_lt, is_some, List, [], ◌∷◌, Option, Some, None, MatchOption, Result, Ok, Err, ◌⊎◌, inl, inr, refl, sym, ap, ◌∙◌, subst, map, ◌++◌}
+use Rattle.std.proofs.Common.{◌≡◌, ℕ, ◌+◌, ◌==◌, Bool, true, false, cond, ◌&&◌, nat_lt, is_some, List, [], ◌∷◌, Option, Some, None, MatchOption, Result, Ok, Err, ◌⊎◌, inl, inr, refl, sym, ap, ◌∙◌, subst, map, ◌++◌, zero, suc}
 use Rattle.std.specs.Cmp.{IsEquivalence}
 use Rattle.std.specs.Prelude.{IsSomeAnd, unwrap_or}
 use Rattle.std.proofs.lemmas.Bool.{eqb-true}
@@ -10,7 +10,7 @@ use Rattle.moka_hist.specs.Finite.{load_eq, put_at, put_key}
 use Rattle.moka_hist.specs.Invalidating.{registering_answer}
 use Rattle.moka_hist.specs.Visits.{owners_without, registering, settled_with, settled_without, settlement_for}
 use Rattle.moka_hist.specs.State.{State, World, Call, DeskPart, fresh, Division, Handed}
-use Rattle.moka_hist.specs.Plan.{Item, Aim, told_on, Removal, plan_of, is_disabled, put, get_plan, insert_plan, load_plan, or_insert_plan, seek, take_out, under_lock, iter_plan}
+use Rattle.moka_hist.specs.Plan.{Item, Aim, told_on, Removal, plan_of, is_disabled, put, get_plan, insert_plan, load_plan, or_insert_plan, seek, take_out, under_lock, iter_plan, lists_from, pending_plan}
 use Rattle.moka_hist.specs.Plan as plan
 use Rattle.moka_hist.specs.Next.{Next, goes}
 use Rattle.moka_hist.specs.Looking.{finds_pair, hits, keeps, misses}
@@ -56,7 +56,8 @@ use Rattle.moka_laws.proofs.StepCases.{OnStep, step_cases}
 use Rattle.moka_laws.proofs.Outcomes.{Outcomes, computes_of, outcomes, passes_by}
 use Rattle.moka_laws.proofs.StartedOnce.{started_once}
 use Rattle.moka_laws.proofs.Giving.{GivesOnly, IsKeptGiving, along, goings}
-use Rattle.moka_laws.proofs.Walks.{Ends, Finds, IsWalk, Lists, Scans, Walks, Walks_giving, Walks_on, Walks_still, on_walk, walk_is_walk}
+use Rattle.moka_laws.proofs.Walks.{Ends, Finds, IsWalk, Lists, Scans, Walks, Walks_giving, Walks_on, Walks_still, on_walk, walk_is_walk, Applies, Applies_first, Chooses, Comes, Comes_not, Comes_on, Comes_to, Ends_first, Ends_turn, Gathers, Hears, IsComing, Posts, Retires, Strikes, Takes_turn, Turns, Walks_carrying, Walks_free, on_coming}
+use Rattle.moka_hist.specs.Maintenance.{carrying}
 
 -- what is taken out is gone, and what is left was there
 out_was : {A : Type 0} (b : Bool) (p : A) (old : Option A) → cond b None old ≡ Some p → old ≡ Some p
@@ -214,6 +215,10 @@ module _ {K V E : Type 0} (P R : K → V → Type 0) (q : K) where
   -- the call is left so, and hands out a value of R, if any
   abbrev NextFair : Option (Told V E) → Next K V E → Type 0
   NextFair told next = CallFair told next.left × ValueFair R q (handed (reply_of next.turn))
+
+  lists_fair : (rest : List (Item K V E)) → RestFair rest → (part left : ℕ) → RestFair (lists_from part left rest)
+  lists_fair rest f part zero = f
+  lists_fair rest f part (suc left) = (tt, lists_fair rest f (part + 1) left)
 
   keys_fair : (keys : List K) (rest : List (Item K V E)) → RestFair rest → RestFair (map plan.Find keys ++ rest)
   keys_fair [] rest f = f
@@ -401,6 +406,12 @@ module _ {K V E : Type 0} (P R : K → V → Type 0) (q : K) where
           DeskFair R Q eq new.desk.owners new.desk.joined new.desk.settled →
           new.desk.told ≡ w.desk.told → RestFair rest → Leaves w.desk n new (goes c rest)
       goes_on rest t d e h = still t d e (goes_fair (w.desk.told n) c rest h)
+
+      -- so where it carries predicates
+      goes_as : {new : World K V E} (other : Call K V E) (rest : List (Item K V E)) → TableFair P eq new.table.stored →
+          DeskFair R Q eq new.desk.owners new.desk.joined new.desk.settled →
+          new.desk.told ≡ w.desk.told → RestFair rest → Leaves w.desk n new (goes other rest)
+      goes_as other rest t d e h = still t d e (goes_fair (w.desk.told n) other rest h)
 
       -- the call has taken what it was told, or has just asked
       took : {new : World K V E} {next : Next K V E} → TableFair P eq new.table.stored →
@@ -636,13 +647,20 @@ module _ {K V E : Type 0} (P R : K → V → Type 0) (q : K) where
       on_item (plan.Find key) rest is f = (
         λ more. still table desk refl (p, none_fair R q),
         λ none. goes_on rest table desk refl f.1,
-        λ there stored some. goes_on (plan.Scan there stored ∷ rest) table desk refl (tt, f.1),
+        λ there stored some none. goes_on (plan.Scan there stored ∷ rest) table desk refl (tt, f.1),
+        λ there stored ids some is. goes_on (plan.Strike there stored ∷ rest) table desk refl (tt, f.1),
       )
       on_item (plan.Scan there stored) rest is f = (
         λ yes. still table desk refl (rest_fair (w.desk.told n) rest f.1, none_fair R q),
         λ no. goes_on rest table desk refl f.1,
       )
       on_item (plan.Register test) rest is f = still table desk refl (tt, registered_fair E R q (registering w.desk))
+      on_item (plan.Candidates parts) rest is f = (
+        λ none. still table desk refl (tt, none_fair R q),
+        λ id more some. goes_as (carrying c (id ∷ more)) (lists_from 0 parts (plan.Retire ∷ [])) table desk refl (lists_fair (plan.Retire ∷ []) (tt, tt) 0 parts),
+      )
+      on_item (plan.Strike there stored) rest is f = goes_as (carrying c _) rest table desk refl f.1
+      on_item plan.Retire rest is f = still table desk refl (tt, none_fair R q)
       on_item (plan.Reply a) rest is f = still table desk refl (tt, f.0)
       on_item item rest is f = passes_by eq After w n c item rest tt
           (λ d a. goes_on rest table (rw (a.owners, a.joined, a.settled) desk) a.told f.1)
@@ -682,6 +700,9 @@ module _ {K V : Type 0} (E : Type 0) (P R : K → V → Type 0) where
 
   walk_fair : (q : K) (p : List (Item K V E)) → IsWalk p → RestFair P R q p
   walk_fair q p Ends = (none_fair R q, tt)
+  walk_fair q p Retires = (tt, tt)
+  walk_fair q p (Chooses parts) = (tt, tt)
+  walk_fair q p (Strikes there stored rest walk) = (tt, walk_fair q rest walk)
   walk_fair q p (Lists part rest walk) = (tt, walk_fair q rest walk)
   walk_fair q p (Finds key rest walk) = (tt, walk_fair q rest walk)
   walk_fair q p (Scans there stored rest walk) = (tt, walk_fair q rest walk)
@@ -711,6 +732,11 @@ module _ {K V : Type 0} (E : Type 0) (P R : K → V → Type 0) where
       lock_fair key rules.listener _ ((refl, refl), tt)
   fresh_fair own parts rules start.InvalidateAll h none = (tt, (none_fair R none, tt))
   fresh_fair own parts rules (start.InvalidateIf test) h none = (tt, tt)
+  fresh_fair own parts rules start.Pending h none = by (is_disabled rules)
+    where
+      by : (b : Bool) → RestFair P R none (pending_plan {E = E} b parts)
+      by true = (none_fair R none, tt)
+      by false = (tt, (tt, (tt, (tt, (tt, tt)))))
   fresh_fair own parts rules start.Iter h none = iter_fair none (is_disabled rules) parts
   fresh_fair own parts rules _ h none = (refl, tt)
 
@@ -718,7 +744,8 @@ module _ {K V : Type 0} (E : Type 0) (P R : K → V → Type 0) where
 abbrev IsKeyless : {K V E : Type 0} → List (Item K V E) → Type 0
 IsKeyless rest =
     (rest ≡ plan.Invalidate_all ∷ plan.Reply answer.Done ∷ [])
-    ⊎ (((test : ℕ) × (rest ≡ plan.Register test ∷ [])) ⊎ IsWalk rest)
+    ⊎ (((test : ℕ) × (rest ≡ plan.Register test ∷ [])) ⊎ (IsWalk rest ⊎ (((parts : ℕ) × IsComing parts rest)
+    ⊎ (rest ≡ plan.Reply answer.Done ∷ []))))
 
 -- a call that is started for no key has such a plan
 keyless_plan : {K V : Type 0} (E : Type 0) (parts : ℕ) (rules : Rules) (begin : Start K V) →
@@ -729,8 +756,13 @@ keyless_plan E parts rules (start.InvalidateIf test) e = inr (inl (test, refl))
 keyless_plan {K} {V} E parts rules start.Iter e = by (is_disabled rules)
   where
     by : (b : Bool) → IsKeyless (iter_plan {K = K} {V = V} {E = E} b parts)
-    by true = inr (inr Ends)
-    by false = inr (inr (walk_is_walk 0 parts))
+    by true = inr (inr (inl Ends))
+    by false = inr (inr (inl (walk_is_walk 0 parts)))
+keyless_plan {K} {V} E parts rules start.Pending e = by (is_disabled rules)
+  where
+    by : (b : Bool) → IsKeyless (pending_plan {K = K} {V = V} {E = E} b parts)
+    by true = inr (inr (inr (inr refl)))
+    by false = inr (inr (inr (inl (parts, Gathers))))
 keyless_plan E parts rules _ e = absurd (none_some (sym e))
 
 module _ {K V E : Type 0} (P R : K → V → Type 0) where
@@ -801,27 +833,65 @@ module _ {K V E : Type 0} (P R : K → V → Type 0) where
 
       walk_says : (c : Call K V E) (rest : List (Item K V E)) → IsWalk rest → handed (reply_of (goes c rest).turn) ≡ None
       walk_says c rest Ends = refl
+      walk_says c rest Retires = refl
+      walk_says c rest (Chooses parts) = refl
+      walk_says c rest (Strikes there stored more walk) = refl
       walk_says c rest (Lists part more walk) = refl
       walk_says c rest (Finds key more walk) = refl
       walk_says c rest (Scans there stored more walk) = refl
 
       walk_left : (c d : Call K V E) (rest : List (Item K V E)) → IsWalk rest → (goes c rest).left ≡ Some d → IsWalk d.plan
       walk_left c d rest Ends e = absurd (none_some e)
+      walk_left c d rest Retires e = subst (λ (v : Call K V E). IsWalk v.plan) (some_same e) Retires
+      walk_left c d rest (Chooses parts) e = subst (λ (v : Call K V E). IsWalk v.plan) (some_same e) (Chooses parts)
+      walk_left c d rest (Strikes there stored more walk) e =
+          subst (λ (v : Call K V E). IsWalk v.plan) (some_same e) (Strikes there stored more walk)
       walk_left c d rest (Lists part more walk) e = subst (λ (v : Call K V E). IsWalk v.plan) (some_same e) (Lists part more walk)
       walk_left c d rest (Finds key more walk) e = subst (λ (v : Call K V E). IsWalk v.plan) (some_same e) (Finds key more walk)
       walk_left c d rest (Scans there stored more walk) e =
           subst (λ (v : Call K V E). IsWalk v.plan) (some_same e) (Scans there stored more walk)
+
+      -- so before maintenance walks
+      comes_left : (parts : ℕ) (c d : Call K V E) → IsComing parts c.plan → (next : Next K V E) → Comes parts c next → next.left ≡ Some d → IsKeyless d.plan
+      comes_left parts c d was next (Comes_on rest Gathers) e = inr (inr (inr (inl (parts, subst (λ (v : Call K V E). IsComing parts v.plan) (some_same e) Gathers))))
+      comes_left parts c d was next (Comes_on rest (Hears number x)) e = inr (inr (inr (inl (parts, subst (λ (v : Call K V E). IsComing parts v.plan) (some_same e) (Hears number x)))))
+      comes_left parts c d was next (Comes_on rest (Posts x)) e = inr (inr (inr (inl (parts, subst (λ (v : Call K V E). IsComing parts v.plan) (some_same e) (Posts x)))))
+      comes_left parts c d was next (Comes_on rest (Takes_turn x)) e = inr (inr (inr (inl (parts, subst (λ (v : Call K V E). IsComing parts v.plan) (some_same e) (Takes_turn x)))))
+      comes_left parts c d was next (Comes_on rest (Applies_first x)) e = inr (inr (inr (inl (parts, subst (λ (v : Call K V E). IsComing parts v.plan) (some_same e) (Applies_first x)))))
+      comes_left parts c d was next (Comes_on rest (Ends_first x)) e = inr (inr (inr (inl (parts, subst (λ (v : Call K V E). IsComing parts v.plan) (some_same e) (Ends_first x)))))
+      comes_left parts c d was next (Comes_on rest Turns) e = inr (inr (inr (inl (parts, subst (λ (v : Call K V E). IsComing parts v.plan) (some_same e) Turns))))
+      comes_left parts c d was next (Comes_on rest Applies) e = inr (inr (inr (inl (parts, subst (λ (v : Call K V E). IsComing parts v.plan) (some_same e) Applies))))
+      comes_left parts c d was next (Comes_on rest Ends_turn) e = inr (inr (inr (inl (parts, subst (λ (v : Call K V E). IsComing parts v.plan) (some_same e) Ends_turn))))
+      comes_left parts c d was next Comes_to e = inr (inr (inl (subst (λ (v : Call K V E). IsWalk v.plan) (some_same e) (Chooses parts))))
+      comes_left parts c d was next Comes_not e = inr (inr (inr (inl (parts, subst (λ (v : Call K V E). IsComing parts v.plan) (some_same e) was))))
+
+      comes_say : (parts : ℕ) (c : Call K V E) (next : Next K V E) → Comes parts c next → handed (reply_of next.turn) ≡ None
+      comes_say parts c next (Comes_on rest Gathers) = refl
+      comes_say parts c next (Comes_on rest (Hears number x)) = refl
+      comes_say parts c next (Comes_on rest (Posts x)) = refl
+      comes_say parts c next (Comes_on rest (Takes_turn x)) = refl
+      comes_say parts c next (Comes_on rest (Applies_first x)) = refl
+      comes_say parts c next (Comes_on rest (Ends_first x)) = refl
+      comes_say parts c next (Comes_on rest Turns) = refl
+      comes_say parts c next (Comes_on rest Applies) = refl
+      comes_say parts c next (Comes_on rest Ends_turn) = refl
+      comes_say parts c next Comes_to = refl
+      comes_say parts c next Comes_not = refl
 
       -- so of each step of a walk
       walks_left : (c d : Call K V E) → IsWalk c.plan → (next : Next K V E) → Walks c next → next.left ≡ Some d → IsWalk d.plan
       walks_left c d was next (Walks_on rest walk) e = walk_left c d rest walk e
       walks_left c d was next Walks_still e = subst (λ (v : Call K V E). IsWalk v.plan) (some_same e) was
       walks_left c d was next (Walks_giving key value rest walk) e = subst (λ (v : Call K V E). IsWalk v.plan) (some_same e) walk
+      walks_left c d was next (Walks_carrying ids rest walk) e = walk_left (carrying c ids) d rest walk e
+      walks_left c d was next Walks_free e = absurd (none_some e)
 
       walks_say : (c : Call K V E) (next : Next K V E) → Walks c next → handed (reply_of next.turn) ≡ None
       walks_say c next (Walks_on rest walk) = walk_says c rest walk
       walks_say c next Walks_still = refl
       walks_say c next (Walks_giving key value rest walk) = refl
+      walks_say c next (Walks_carrying ids rest walk) = walk_says (carrying c ids) rest walk
+      walks_say c next Walks_free = refl
 
       keyless_cases : (s : State K V E) (n : ℕ) (c : Call K V E) → IsKeyless c.plan → OnStep eq (Gone s) s.world n c c.plan
       keyless_cases s n c (inl hiding) =
@@ -847,14 +917,14 @@ module _ {K V E : Type 0} (P R : K → V → Type 0) where
             left = λ d e. absurd (none_some e);
             says = registered_says K V E (registering s.world.desk);
           }))
-      keyless_cases s n c (inr (inr walk)) = on_walk eq (Gone s) s.world n c c.plan walk
+      keyless_cases s n c (inr (inr (inl walk))) = on_walk eq (Gone s) s.world n c c.plan walk
           (λ listings stay next on. record {
             table = refl;
             owners = refl;
             joined = refl;
             settled = refl;
             told = refl;
-            left = λ d e. inr (inr (walks_left c d walk next on e));
+            left = λ d e. inr (inr (inl (walks_left c d walk next on e)));
             says = walks_say c next on;
           })
           (record {
@@ -865,6 +935,36 @@ module _ {K V E : Type 0} (P R : K → V → Type 0) where
             told = refl;
             left = λ d e. absurd (none_some e);
             says = refl;
+          })
+          (λ ids. record {
+            table = refl;
+            owners = refl;
+            joined = refl;
+            settled = refl;
+            told = refl;
+            left = λ d e. absurd (none_some e);
+            says = refl;
+          })
+      keyless_cases s n c (inr (inr (inr (inr over)))) =
+          subst (λ p. OnStep eq (Gone s) s.world n c p) (sym over)
+          (outcomes eq (Gone s) s.world n c (plan.Reply answer.Done) [] (record {
+            table = refl;
+            owners = refl;
+            joined = refl;
+            settled = refl;
+            told = refl;
+            left = λ d e. absurd (none_some e);
+            says = refl;
+          }))
+      keyless_cases s n c (inr (inr (inr (inl coming)))) = on_coming eq (Gone s) s.world n c coming.0 c.plan coming.1
+          (λ d spares next comes. record {
+            table = refl;
+            owners = spares.owners;
+            joined = spares.joined;
+            settled = spares.settled;
+            told = spares.told;
+            left = λ a e. comes_left coming.0 c a coming.1 next comes e;
+            says = comes_say coming.0 c next comes;
           })
 
       -- a call without a key hands nothing out, and has no key after its step

@@ -3,7 +3,7 @@ use Rattle.std.proofs.Common.{◌≡◌, ℕ, ◌+◌, ◌==◌, Bool, true, fal
 use Rattle.std.proofs.lemmas.Bool.{eqb-true}
 use Rattle.std.specs.Cmp.{IsEquivalence}
 use Rattle.moka_hist.specs.State.{State, World, Call, fresh}
-use Rattle.moka_hist.specs.Plan.{Item, Aim, Removal, end_load, is_disabled, look}
+use Rattle.moka_hist.specs.Plan.{Item, Aim, Removal, end_load, is_disabled, look, lists_from}
 use Rattle.moka_hist.specs.Entries.{put_answer}
 use Rattle.moka_hist.specs.Writing.{nothing_answer, removed_answer, said}
 use Rattle.moka_hist.specs.Plan as plan
@@ -42,7 +42,8 @@ use Rattle.moka_laws.proofs.StepCases.{OnStep, step_cases}
 use Rattle.moka_laws.proofs.Outcomes.{Outcomes, outcomes, passes_on}
 use Rattle.moka_hist.specs.declared.loads.Compute.{Compute}
 use Rattle.moka_hist.specs.Computing.{after_told_op, after_read_key}
-use Rattle.moka_laws.proofs.Walks.{Ends, Finds, IsWalk, Lists, Scans, walk_is_walk}
+use Rattle.moka_laws.proofs.Walks.{Ends, Finds, IsWalk, Lists, Scans, walk_is_walk, Chooses, Retires, Strikes, retiring_walk}
+use Rattle.moka_hist.specs.Maintenance.{carrying}
 
 module _ {K V E : Type 0} where
   -- 1 where a load is ended so without a value, and that answered
@@ -141,6 +142,9 @@ module _ {K V E : Type 0} where
 
   walk_late : (p : List (Item K V E)) → IsWalk p → lates p ≡ 0
   walk_late p Ends = refl
+  walk_late p Retires = refl
+  walk_late p (Chooses parts) = refl
+  walk_late p (Strikes there stored rest walk) = walk_late rest walk
   walk_late p (Lists part rest walk) = walk_late rest walk
   walk_late p (Finds key rest walk) = walk_late rest walk
   walk_late p (Scans there stored rest walk) = walk_late rest walk
@@ -407,11 +411,20 @@ module _ {K V E : Type 0} where
     on_item (plan.Find key) rest e l h o = (
       (λ more. parks s n c _ refl (ap lates e ∙ h) (λ g. cc)),
       (λ none. goes_on s n c rest h),
-      λ k stored some. quiet s n c _ h (λ g. cc),
+      (λ k stored some none. quiet s n c _ h (λ g. cc)),
+      λ k stored ids some is. quiet s n c _ h (λ g. cc),
     )
     on_item (plan.Scan there stored) rest e l h o =
         ((λ seen. quiet s n c _ h (λ g. cc)), λ unseen. goes_on s n c rest h)
     on_item (plan.Register test) rest e l h o = quiet s n c _ refl (λ g. cc)
+    on_item (plan.Candidates parts) rest e l h o = (
+      (λ none. quiet s n c _ refl (λ g. cc)),
+      λ id more some.
+          let lists : List (Item K V E) = lists_from 0 parts (plan.Retire ∷ []) in
+          quiet s n c _ (goes_late (carrying c (id ∷ more)) lists ∙ walk_late lists (retiring_walk parts)) (goes_not (carrying c (id ∷ more)) lists),
+    )
+    on_item (plan.Strike there stored) rest e l h o = quiet s n c _ (goes_late (carrying c _) rest ∙ h) (goes_not (carrying c _) rest)
+    on_item plan.Retire rest e l h o = quiet s n c _ refl (λ g. cc)
     on_item (plan.Reply a) rest e l h o = quiet s n c _ refl (λ g. cc)
     on_item (plan.Settle with) rest e l h o = goes_on s n c rest h
     on_item item rest e l h o = passes_on eq After s.world n c item rest tt

@@ -28,7 +28,7 @@ use Rattle.moka_laws.proofs.Before.{Before, before_is, is_before, before_more, b
 use Rattle.moka_laws.proofs.Counting.{none_some, some_same, put_cases, put_here, put_there, differ, differ_not}
 use Rattle.moka_laws.proofs.Owning.{plan_left}
 use Rattle.moka_laws.proofs.Locking.{Locks}
-use Rattle.moka_laws.proofs.Plans.{IsTail, Answering, Settling, IsDrained, Looking, Putting, IsPosted, Draining, Ended, Locking, IsPlan, Posted, Drained, Posting, Hearing, Noticing, Listening, Unlocking, Turning, Applying, Ending, Judging, Owning, Giving, Reading, Asking, Telling, Writing, Removing, Locking_out, Choosing, Finding, Chosen, Taking, Freeing, Hiding, Registering, Idling, Asking_op, Owning_key, Owning_alone, Reading_key, Telling_op, Walking}
+use Rattle.moka_laws.proofs.Plans.{IsTail, Answering, Settling, IsDrained, Looking, Putting, IsPosted, Draining, Ended, Locking, IsPlan, Posted, Drained, Posting, Hearing, Noticing, Listening, Unlocking, Turning, Applying, Ending, Judging, Owning, Giving, Reading, Asking, Telling, Writing, Removing, Locking_out, Choosing, Finding, Chosen, Taking, Freeing, Hiding, Registering, Idling, Asking_op, Owning_key, Owning_alone, Reading_key, Telling_op, Walking, Maintaining, Applying_all, Ending_all}
 use Rattle.moka_laws.proofs.Replacing.{opens_notice, listening, not_opened, opened_committed, told_once}
 use Rattle.moka_laws.proofs.Rules.{fresh_plan}
 use Rattle.moka_laws.proofs.Noticing.{IsNoticing, noticing_kept, naming, running, drained_none, posted_none, misses_none, finds_none, keeps_none, hits_none, read_none, told_none, form_none, read_key_none, told_op_none, tail_none, walk_none, walks_none}
@@ -36,7 +36,7 @@ use Rattle.moka_laws.proofs.SoundReached.{IsSound, sound_kept, reached_sound}
 use Rattle.moka_laws.proofs.Kept.{IsInvariant, in_reached}
 use Rattle.moka_laws.proofs.StepCases.{OnStep, step_cases}
 use Rattle.moka_laws.proofs.Outcomes.{outcomes}
-use Rattle.moka_laws.proofs.Walks.{Ends, Finds, IsWalk, Lists, Scans, on_walk}
+use Rattle.moka_laws.proofs.Walks.{Ends, Finds, IsWalk, Lists, Scans, on_walk, Chooses, Retires, Strikes}
 
 module _ {K V E : Type 0} where
   -- the plan hears its notice next
@@ -157,6 +157,8 @@ module _ {K V E : Type 0} where
     on_drained p e (Locking_out removal key) =
         outcomes eq (Made p) w n c (plan.Lock key) (plan.Moment (plan.To_take_out removal key) ∷ [])
         ((λ free. locks p _ (Some key) e (λ h. h) refl), λ held. quiet p _ e (λ h. h) (ap (naming n) e))
+    on_drained p e (Maintaining parts) = outcomes eq (Made p) w n c plan.Turn (plan.Apply ∷ plan.End ∷ plan.Candidates parts ∷ [])
+        ((λ free. quiet p _ e (λ h. h) refl), λ taken. quiet p _ e (λ h. h) (ap (naming n) e))
 
     on_posted : (p : List (Item K V E)) → c.plan ≡ p → IsPosted p → OnStep eq (Made p) w n c p
     on_posted p e (Draining rest d) = outcomes eq (Made p) w n c plan.Drain rest (
@@ -176,6 +178,9 @@ module _ {K V E : Type 0} where
     -- a walk hears no notice
     walk_hears : (p : List (Item K V E)) → IsWalk p → IsHearing p → ⊥
     walk_hears p Ends h = h
+    walk_hears p Retires h = h
+    walk_hears p (Chooses parts) h = h
+    walk_hears p (Strikes there stored rest walk) h = h
     walk_hears p (Lists part rest walk) h = h
     walk_hears p (Finds key rest walk) h = h
     walk_hears p (Scans there stored rest walk) h = h
@@ -334,7 +339,10 @@ module _ {K V E : Type 0} where
         (quiet p _ e (λ h. h) refl)
     on_plan p e (Walking rest walk) = on_walk eq (Made p) w n c rest walk
         (λ listings stay next on. quiet p _ e (walk_hears p walk) (walks_none n c (ap (naming n) e ∙ walk_none n p walk) next on))
-        (quiet p _ e (walk_hears p walk) refl)
+        (quiet p _ e (walk_hears p walk) refl) (λ ids. quiet p _ e (walk_hears p walk) refl)
+    on_plan p e (Applying_all parts) = outcomes eq (Made p) w n c plan.Apply (plan.End ∷ plan.Candidates parts ∷ [])
+        ((λ none. quiet p _ e (λ h. h) refl), λ y ys some. quiet p _ e (λ h. h) refl)
+    on_plan p e (Ending_all parts) = outcomes eq (Made p) w n c plan.End (plan.Candidates parts ∷ []) (quiet p _ e (λ h. h) refl)
     on_plan p e (Idling rest t) = outcomes eq (Made p) w n c plan.Idle rest
         (quiet p _ e (λ h. h) (tail_none n c rest t))
 

@@ -5,10 +5,10 @@ use Rattle.std.proofs.lemmas.Bool.{eqb-true}
 use Rattle.std.proofs.lemmas.Bool.Decides.{nat_tests}
 use Rattle.moka_hist.specs.Finite.{put_at}
 use Rattle.moka_hist.specs.State.{Call, Listed, TablePart, World, DeskPart}
-use Rattle.moka_hist.specs.Plan.{Item, Aim, Change, Removal, look, is_disabled}
+use Rattle.moka_hist.specs.Plan.{Item, Aim, Change, Removal, lists_from, look, is_disabled}
 use Rattle.moka_hist.specs.Plan as plan
 use Rattle.moka_hist.specs.Causes.{chosen_holds}
-use Rattle.moka_hist.specs.Visits.{is_seen, cause_of, gave_back, decided, is_running, is_unlocked_for, locked_by, times_at, unlocked, with_notice, without_moment, first_of, holding_with, claimed, claimed_alone, claim_of, finds, has_room, is_free_for, settlement_for, readers_without, settled_without, stamped, judged, settled_as, opened, took_told, ended_turn, invalidated_all, is_hit, registered_with, registering}
+use Rattle.moka_hist.specs.Visits.{is_seen, cause_of, gave_back, decided, is_running, is_unlocked_for, locked_by, times_at, unlocked, with_notice, without_moment, first_of, holding_with, claimed, claimed_alone, claim_of, finds, has_room, is_free_for, settlement_for, readers_without, settled_without, stamped, judged, settled_as, opened, took_told, ended_turn, invalidated_all, is_hit, registered_with, registering, candidates, struck, retired}
 use Rattle.moka_hist.specs.Tables.{GivesKeys, answer_of, begun, by_pair, removed, taken_by, written}
 use Rattle.moka_hist.specs.Bound.{times_of, stayed, decided_by, most_undecided}
 use Rattle.moka_hist.specs.Next.{Next, goes, stays, waits, gives, asks, answers}
@@ -19,7 +19,8 @@ use Rattle.moka_hist.specs.Loading.{owner_rest, after_own, after_read, after_tol
 use Rattle.moka_hist.specs.Writing.{cause_handed, nothing_answer, nothing_rest, old_stamp, once_told, removed_answer, removed_rest, said, stamp_asked, after_out}
 use Rattle.moka_hist.specs.Entries.{unchanged}
 use Rattle.moka_hist.specs.Invalidating.{registering_answer}
-use Rattle.moka_hist.specs.Walking.{after_find, after_scan}
+use Rattle.moka_hist.specs.Maintenance.{after_candidates, carrying}
+use Rattle.moka_hist.specs.Walking.{after_find, after_scan, judging}
 use Rattle.moka_hist.specs.Computing.{compute_rest, report_rest, after_own_key, after_own_alone, after_read_key, after_told_op}
 use Rattle.moka_hist.specs.Step.{access_for, replace_of, takes_of}
 use Rattle.moka_hist.specs.declared.records.Stored.{Stored}
@@ -36,6 +37,7 @@ use Rattle.moka_hist.specs.declared.writes.Owed.{Owed}
 use Rattle.moka_hist.specs.declared.writes.Write.{Write}
 use Rattle.moka_hist.specs.declared.writes.Write.TheVariants.{Remove, Upsert}
 use Rattle.moka_hist.specs.declared.rules.Cause.{Cause}
+use Rattle.moka_hist.specs.declared.replies.Answer.TheVariants as reply
 use Rattle.moka_hist.specs.declared.replies.Ask.TheVariants as ask
 use Rattle.moka_hist.specs.declared.visits.Settled.{Settled}
 use Rattle.moka_hist.specs.declared.visits.Settled.TheVariants as settled
@@ -290,10 +292,20 @@ module _ {K V E : Type 0} (eq : K → K → Bool) where
       Undecided M w n c ×
       (w.table.stored key ≡ None → M (done w n) (goes c rest)) ×
       ((k : K) (stored : Stored V) → w.table.stored key ≡ Some (k, stored) →
-      M (done w n) (goes c (plan.Scan k stored ∷ rest)))
+      c.carried ≡ None → M (done w n) (goes c (plan.Scan k stored ∷ rest))) ×
+      ((k : K) (stored : Stored V) (ids : List (ℕ × ℕ)) → w.table.stored key ≡ Some (k, stored) →
+      c.carried ≡ Some ids → M (done w n) (goes c (plan.Strike k stored ∷ rest)))
   Outcomes M w n c (plan.Scan there stored) rest =
       (is_seen w.desk None there stored ≡ true → M w (gives c there stored.value rest)) ×
       (is_seen w.desk None there stored ≡ false → M w (goes c rest))
+  Outcomes M w n c (plan.Candidates parts) rest =
+      (candidates w.desk ≡ [] → M w (answers reply.Done)) ×
+      ((id : ℕ × ℕ) (more : List (ℕ × ℕ)) → candidates w.desk ≡ id ∷ more →
+      M w (goes (carrying c (id ∷ more)) (lists_from 0 parts (plan.Retire ∷ []))))
+  Outcomes M w n c (plan.Strike there stored) rest =
+      M w (goes (carrying c (struck w.desk (unwrap_or c.carried []) there stored)) rest)
+  Outcomes M w n c plan.Retire rest =
+      M (on_desk w (retired w.desk (unwrap_or c.carried []))) (answers reply.Done)
   Outcomes M w n c (plan.Reply answer) rest = M (on_desk w (gave_back w.desk n)) (answers answer)
 
   -- the desk once the call has tried to post its write
@@ -380,7 +392,16 @@ module _ {K V E : Type 0} (eq : K → K → Bool) where
         w.table.stored key ≡ pair → Outcomes M w n c (plan.Find key) rest →
         M (done w n) (after_find c rest (table.Decided (answer_of pair)))
     looked_up key rest None e o = o.1 e
-    looked_up key rest (Some pair) e o = o.2 pair.0 pair.1 e
+    looked_up key rest (Some pair) e o = by c.carried refl
+      where
+        by : (ids : Option (List (ℕ × ℕ))) → c.carried ≡ ids → M (done w n) (goes c (judging ids pair.0 pair.1 ∷ rest))
+        by None is = o.2 pair.0 pair.1 e is
+        by (Some ids) is = o.3 pair.0 pair.1 ids e is
+
+    chose : (parts : ℕ) (rest : List (Item K V E)) (ids : List (ℕ × ℕ)) → candidates w.desk ≡ ids →
+        Outcomes M w n c (plan.Candidates parts) rest → M w (after_candidates c parts (found.Candidates ids))
+    chose parts rest [] e o = o.0 e
+    chose parts rest (id ∷ more) e o = o.1 id more e
 
     scanned : (there : K) (stored : Stored V) (rest : List (Item K V E)) (b : Bool) →
         is_seen w.desk None there stored ≡ b → Outcomes M w n c (plan.Scan there stored) rest →
@@ -493,7 +514,7 @@ module _ {K V E : Type 0} (eq : K → K → Bool) where
     taken_op compute pair rest (Some given) e o = o.1 given e
 
   pub outcomes : (M : World K V E → Next K V E → Type 0) (w : World K V E) (n : ℕ) (c : Call K V E) (item : Item K V E) (rest : List (Item K V E)) →
-      Outcomes M w n c item rest → OnAccess eq M w n c item rest (access_for n item)
+      Outcomes M w n c item rest → OnAccess eq M w n c item rest (access_for n c.carried item)
   outcomes M w n c plan.Drain rest o = drained M w n c rest w.desk.owed refl o
   outcomes M w n c (plan.Ended number) rest o = heard M w n c rest number (is_running w.desk number) refl o
   outcomes M w n c plan.Heard rest o = heard M w n c rest n (is_running w.desk n) refl o
@@ -545,6 +566,9 @@ module _ {K V E : Type 0} (eq : K → K → Bool) where
       (o.0, λ answer t h. rw (h.1, h.0) (looked_up M w n c key rest (w.table.stored key) refl o))
   outcomes M w n c (plan.Scan there stored) rest o =
       scanned M w n c there stored rest (is_seen w.desk None there stored) refl o
+  outcomes M w n c (plan.Candidates parts) rest o = chose M w n c parts rest (candidates w.desk) refl o
+  outcomes M w n c (plan.Strike there stored) rest o = o
+  outcomes M w n c plan.Retire rest o = o
   outcomes M w n c (plan.Reply answer) rest o = o
 
   module _ (M : World K V E → Next K V E → Type 0) (w : World K V E) (n : ℕ) (c : Call K V E) where

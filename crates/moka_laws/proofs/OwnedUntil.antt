@@ -60,9 +60,12 @@ module _ {K V E : Type 0} (eq : K → K → Bool) (w : World K V E) (n : ℕ) (c
     λ k old on some. inl refl,
   )
   on_item (plan.List_keys part) rest own f = (λ e. inl refl, λ listed keys is gives. inl refl)
-  on_item (plan.Find key) rest own f = (λ e. inl refl, λ e. inl refl, λ k stored e. inl refl)
+  on_item (plan.Find key) rest own f = (λ e. inl refl, λ e. inl refl, λ k stored e none. inl refl, λ k stored ids e is. inl refl)
   on_item (plan.Scan there stored) rest own f = (λ e. inl refl, λ e. inl refl)
   on_item (plan.Register test) rest own f = inl refl
+  on_item (plan.Candidates parts) rest own f = (λ e. inl refl, λ id more e. inl refl)
+  on_item (plan.Strike there stored) rest own f = inl refl
+  on_item plan.Retire rest own f = inl refl
   on_item (plan.Reply answer) rest own f = inl refl
   on_item (plan.Notice key old cause upsert) rest own f = (λ e. inl refl, λ e. inl refl)
   on_item (plan.Post write) rest own f = (λ e. inl refl, λ e. inl refl)

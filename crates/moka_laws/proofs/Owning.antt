@@ -5,7 +5,7 @@ use Rattle.std.specs.Option.{option_map_or}
 use Rattle.std.specs.Cmp.{IsEquivalence}
 use Rattle.moka_hist.specs.Finite.{put_key, load_eq, kind_eq}
 use Rattle.moka_hist.specs.State.{State, World, Call, DeskPart}
-use Rattle.moka_hist.specs.Plan.{Item, Aim, Removal, plan_of}
+use Rattle.moka_hist.specs.Plan.{Item, Aim, Removal, plan_of, lists_from}
 use Rattle.moka_hist.specs.Computing.{after_told_op}
 use Rattle.moka_hist.specs.Entries.{unchanged}
 use Rattle.moka_hist.specs.Writing.{cause_handed, nothing_answer, removed_answer}
@@ -38,7 +38,8 @@ use Rattle.moka_laws.proofs.Weights.{weigh}
 use Rattle.moka_laws.proofs.Kept.{IsInvariant, in_reached}
 use Rattle.moka_laws.proofs.StepCases.{OnStep, step_cases}
 use Rattle.moka_laws.proofs.Outcomes.{alone_of, computes_of, Outcomes, OwnsKey, outcomes}
-use Rattle.moka_laws.proofs.Walks.{weigh_finds, weigh_walk, walk_is_walk}
+use Rattle.moka_laws.proofs.Walks.{weigh_finds, weigh_walk, walk_is_walk, weigh_retiring}
+use Rattle.moka_hist.specs.Maintenance.{carrying}
 
 -- a kind is equal to itself, and to no other
 kind_self : (a : Kind) → kind_eq a a ≡ true
@@ -260,7 +261,7 @@ module _ {K V E : Type 0} where
     fresh_weighs : (rules : Rules) (p : List (Item K V E)) → IsFresh rules p → weigh owning p ≡ 0
     fresh_weighs rules p (Disabled a d plain) = refl
     fresh_weighs rules p (Walks_over parts able) =
-        weigh_walk owning (record { list = λ part. refl; find = λ key. refl; scan = λ there stored. refl; end = refl }) p (walk_is_walk 0 parts)
+        weigh_walk owning (record { list = λ part. refl; find = λ key. refl; scan = λ there stored. refl; end = refl; choose = λ parts. refl; strike = λ there stored. refl; retire = refl }) p (walk_is_walk 0 parts)
     fresh_weighs rules p _ = refl
 
     fresh_owns : (parts : ℕ) (rules : Rules) (start : Start K V) → Owns owners n (plan_of parts rules start)
@@ -452,11 +453,19 @@ module _ {K V E : Type 0} (eq : K → K → Bool) where
     on_item (plan.Find key) rest p o = (
       (λ more. keeps refl p),
       (λ none. keeps refl (goes_none _ n c rest o.later)),
-      λ k stored some. keeps refl (owns_none _ n (plan.Scan k stored ∷ rest) (omega (arith, o.later))),
+      (λ k stored some none. keeps refl (owns_none _ n (plan.Scan k stored ∷ rest) (omega (arith, o.later)))),
+      λ k stored ids some is. keeps refl (owns_none _ n (plan.Strike k stored ∷ rest) (omega (arith, o.later))),
     )
     on_item (plan.Scan there stored) rest p o =
         ((λ seen. keeps refl (owns_none _ n rest o.later)), λ unseen. keeps refl (goes_none _ n c rest o.later))
     on_item (plan.Register test) rest p o = keeps refl (owns_none _ n [] refl)
+    on_item (plan.Candidates parts) rest p o = (
+      (λ none. keeps refl (owns_none _ n [] refl)),
+      λ id more some. keeps refl
+          (goes_none _ n (carrying c (id ∷ more)) (lists_from 0 parts (plan.Retire ∷ [])) (weigh_retiring owning (λ part. refl) refl parts)),
+    )
+    on_item (plan.Strike there stored) rest p o = keeps refl (goes_none _ n (carrying c _) rest o.later)
+    on_item plan.Retire rest p o = keeps refl (owns_none _ n [] refl)
     on_item (plan.Reply answer) rest p o = keeps refl (owns_none _ n [] refl)
     on_item _ rest p o = keeps refl (goes_none _ n c rest o.later)
 

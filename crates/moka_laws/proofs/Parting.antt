@@ -4,7 +4,7 @@ use Rattle.std.proofs.lemmas.Bool.{eqb-true}
 use Rattle.std.specs.Option.{option_map, option_to_list}
 use Rattle.moka_hist.specs.Finite.{put_at}
 use Rattle.moka_hist.specs.State.{State, World, Call, DeskPart}
-use Rattle.moka_hist.specs.Plan.{Item, Aim, held_by}
+use Rattle.moka_hist.specs.Plan.{Item, Aim, held_by, lists_from}
 use Rattle.moka_hist.specs.Plan as plan
 use Rattle.moka_hist.specs.Visits.{claimed_alone, claimed, has_room, is_unlocked_for, locked_by, makes, number_of, settlement_for}
 use Rattle.moka_hist.specs.Next.{Next, goes}
@@ -47,7 +47,8 @@ use Rattle.moka_laws.proofs.StepCases.{OnStep, step_cases}
 use Rattle.moka_laws.proofs.Outcomes.{Outcomes, outcomes, computes_of, passes_by}
 use Rattle.moka_hist.specs.declared.loads.Compute.{Compute}
 use Rattle.moka_hist.specs.Computing.{after_told_op, after_read_key}
-use Rattle.moka_laws.proofs.Walks.{weigh_finds}
+use Rattle.moka_laws.proofs.Walks.{weigh_finds, weigh_retiring}
+use Rattle.moka_hist.specs.Maintenance.{carrying}
 
 module _ {K V E : Type 0} where
   -- ---- the write of a live call is with no other call, and isn't owed
@@ -304,13 +305,22 @@ module _ {K V E : Type 0} where
     on_item (plan.Find key) rest e = (
       λ more. as_owed refl refl (still_parts owes n c.plan _ (λ x. refl) (λ a e. cc)),
       λ none. as_owed refl refl (goes_on (plan.Find key) rest e),
-      λ k stored some. as_owed refl refl (moves (λ a e. cc) (λ x d. omega (arith, ap (weigh (post_of x)) e))),
+      λ k stored some none. as_owed refl refl (moves (λ a e. cc) (λ x d. omega (arith, ap (weigh (post_of x)) e))),
+      λ k stored ids some is. as_owed refl refl (moves (λ a e. cc) (λ x d. omega (arith, ap (weigh (post_of x)) e))),
     )
     on_item (plan.Scan there stored) rest e = (
       λ seen. as_owed refl refl (moves (λ a e. cc) (λ x d. omega (arith, ap (weigh (post_of x)) e))),
       λ unseen. as_owed refl refl (goes_on (plan.Scan there stored) rest e),
     )
     on_item (plan.Register test) rest e = as_owed refl refl (clear_parts owes n c.plan (λ x. refl) (λ a e. refl))
+    on_item (plan.Candidates parts) rest e = (
+      λ none. as_owed refl refl (clear_parts owes n c.plan (λ x. refl) (λ a e. refl)),
+      λ id more some. as_owed refl refl (goes_parts owes n c.plan (carrying c (id ∷ more)) (lists_from 0 parts (plan.Retire ∷ []))
+          (λ x d. omega (arith, ap (weigh (post_of x)) e, weigh_retiring {K = K} {V = V} {E = E} (post_of x) (λ part. refl) refl parts))),
+    )
+    on_item (plan.Strike there stored) rest e = as_owed refl refl
+        (goes_parts owes n c.plan (carrying c _) rest (λ x d. omega (arith, ap (weigh (post_of x)) e)))
+    on_item plan.Retire rest e = as_owed refl refl (clear_parts owes n c.plan (λ x. refl) (λ a e. refl))
     on_item (plan.Reply reply) rest e = as_owed refl refl (clear_parts owes n c.plan (λ x. refl) (λ a e. refl))
     on_item (plan.Settle with) rest e = as_owed refl refl (goes_on (plan.Settle with) rest e)
     on_item item rest e = passes_by eq (Leaves w n c.plan) w n c item rest tt

@@ -14,8 +14,8 @@ use Rattle.moka_hist.specs.Conditions.{MayLeaveWith}
 use Rattle.moka_hist.specs.Dropping.{dropped}
 use Rattle.moka_hist.specs.Places.{Holds}
 use Rattle.moka_hist.specs.Step.{Step}
-use Rattle.moka_hist.specs.Visits.{number_of}
-use Rattle.moka_hist.specs.Run.{fresh_call, started}
+use Rattle.moka_hist.specs.Visits.{number_of, moment_of, pending_of}
+use Rattle.moka_hist.specs.Run.{IsReached, fresh_call, started}
 use Rattle.moka_hist.specs.declared.accesses.Turn.{Turn}
 use Rattle.moka_hist.specs.declared.events.Told.{Told}
 use Rattle.moka_hist.specs.declared.events.Told.TheVariants as answer
@@ -33,14 +33,16 @@ use Rattle.moka_laws.specs.Removals.{PlacesComeBack}
 use Rattle.moka_laws.proofs.Counting.{none_some, put_here, put_there}
 use Rattle.moka_laws.proofs.Holding.{HoldsAs, IsHolding, all_leave, holding_kept, others_hold}
 use Rattle.moka_laws.proofs.Owning.{plan_left}
-use Rattle.moka_laws.proofs.Plans.{IsTail, Answering, Settling, IsDrained, Looking, Putting, IsPosted, Draining, Ended, Locking, IsPlan, Posted, Drained, Posting, Hearing, Noticing, Listening, Unlocking, Turning, Applying, Ending, Judging, Owning, Giving, Reading, Asking, Telling, Writing, IsLook, Removing, Locking_out, Choosing, Finding, Chosen, Taking, Freeing, Hiding, Registering, Idling, AllKnown, known_kept, Asking_op, Owning_key, Owning_alone, Reading_key, Telling_op, Walking}
+use Rattle.moka_laws.proofs.Plans.{IsTail, Answering, Settling, IsDrained, Looking, Putting, IsPosted, Draining, Ended, Locking, IsPlan, Posted, Drained, Posting, Hearing, Noticing, Listening, Unlocking, Turning, Applying, Ending, Judging, Owning, Giving, Reading, Asking, Telling, Writing, IsLook, Removing, Locking_out, Choosing, Finding, Chosen, Taking, Freeing, Hiding, Registering, Idling, AllKnown, known_kept, Asking_op, Owning_key, Owning_alone, Reading_key, Telling_op, Walking, Maintaining, Applying_all, Ending_all}
 use Rattle.moka_laws.proofs.Rules.{abort_next, put_plans, chosen_next, kept_next, loaded_plans, IsFresh, Disabled, fresh_plan, read_key_next, told_op_next, Walks_over}
 use Rattle.moka_laws.proofs.Kept.{IsInvariant, in_reached}
 use Rattle.moka_laws.proofs.StepCases.{OnStep, step_cases}
 use Rattle.moka_laws.proofs.Outcomes.{outcomes}
 use Rattle.moka_hist.specs.declared.loads.Compute.{Compute}
 use Rattle.moka_hist.specs.Computing.{after_told_op, after_read_key}
-use Rattle.moka_laws.proofs.Walks.{Ends, Finds, IsWalk, Lists, Scans, Walks, Walks_giving, Walks_on, Walks_still, on_walk, walk_is_walk}
+use Rattle.moka_laws.proofs.Walks.{Ends, Finds, IsWalk, Lists, Scans, Walks, Walks_giving, Walks_on, Walks_still, on_walk, walk_is_walk, Chooses, Retires, Strikes, Walks_carrying, Walks_free}
+use Rattle.moka_hist.specs.Maintenance.{carrying}
+use Rattle.std.specs.Option.{option_and_then}
 
 -- the call has a place for a write of its own, and the moment of its change is pending
 abbrev IsPending : Option Holding → Type 0
@@ -58,7 +60,7 @@ either_pending pending (inr e) = is_pending pending e
 module _ {K V E : Type 0} where
   -- between the moment of a change and the first visit after it the moment is pending
   abbrev Pends : Option Holding → List (Item K V E) → Type 0
-  Pends h (plan.Write key value moment ∷ rest) = IsPending h
+  Pends h (plan.Write key value moment ∷ rest) = h ≡ Some (holding.Own (Some moment))
   Pends h (plan.Out removal key ∷ rest) = IsPending h
   Pends h (plan.Idle ∷ rest) = IsPending h
   Pends h (plan.Unlock false ∷ rest) = (h ≡ None) ⊎ IsPending h
@@ -136,12 +138,18 @@ module _ {K V E : Type 0} where
 
     walk_pends : (p : List (Item K V E)) → IsWalk p → Pends h p
     walk_pends p Ends = tt
+    walk_pends p Retires = tt
+    walk_pends p (Chooses parts) = tt
+    walk_pends p (Strikes there stored rest walk) = tt
     walk_pends p (Lists part rest walk) = tt
     walk_pends p (Finds key rest walk) = tt
     walk_pends p (Scans there stored rest walk) = tt
 
     goes_pends : (c : Call K V E) (p : List (Item K V E)) → IsWalk p → Pends h (plan_left (goes c p).left)
     goes_pends c p Ends = tt
+    goes_pends c p Retires = tt
+    goes_pends c p (Chooses parts) = tt
+    goes_pends c p (Strikes there stored rest walk) = tt
     goes_pends c p (Lists part rest walk) = tt
     goes_pends c p (Finds key rest walk) = tt
     goes_pends c p (Scans there stored rest walk) = tt
@@ -150,6 +158,8 @@ module _ {K V E : Type 0} where
     walks_pend c was next (Walks_on rest walk) = goes_pends c rest walk
     walks_pend c was next Walks_still = was
     walks_pend c was next (Walks_giving key value rest walk) = walk_pends rest walk
+    walks_pend c was next (Walks_carrying ids rest walk) = goes_pends (carrying c ids) rest walk
+    walks_pend c was next Walks_free = tt
 
     form_pends : (rules : Rules) (p : List (Item K V E)) → IsFresh rules p → Pends h p
     form_pends rules p (Disabled a d plain) = tt
@@ -185,7 +195,7 @@ module _ {K V E : Type 0} where
     on_drained p k (Giving a) = outcomes eq After w n c (plan.Reply a) [] tt
     on_drained p k (Putting key value rest t) =
         outcomes eq After w n c (plan.Moment (plan.To_store key value)) rest
-        (pending_here w.desk.clock)
+        (put_here w.desk.holding n (Some (holding.Own (Some w.desk.clock))))
     on_drained p k (Locking key value rest t) =
         outcomes eq After w n c (plan.Lock key) (plan.Moment (plan.To_store key value) ∷ rest)
         (λ e. tt, λ e. q)
@@ -195,6 +205,8 @@ module _ {K V E : Type 0} where
     on_drained p k (Locking_out removal key) =
         outcomes eq After w n c (plan.Lock key) (plan.Moment (plan.To_take_out removal key) ∷ [])
         (λ e. tt, λ e. q)
+    on_drained p k (Maintaining parts) =
+        outcomes eq After w n c plan.Turn (plan.Apply ∷ plan.End ∷ plan.Candidates parts ∷ []) (λ e. tt, λ e. q)
 
     on_posted : (p : List (Item K V E)) → IsPosted p → OnStep eq After w n c p
     on_posted p (Draining rest d) = outcomes eq After w n c plan.Drain rest (
@@ -268,7 +280,9 @@ module _ {K V E : Type 0} where
     on_plan p e k Hiding = outcomes eq After w n c plan.Invalidate_all (plan.Reply reply.Done ∷ []) tt
     on_plan p e k (Registering test) = outcomes eq After w n c (plan.Register test) [] tt
     on_plan p e k (Walking rest walk) = on_walk eq After w n c rest walk
-        (λ listings stay next on. walks_pend _ c (subst (Pends (w.desk.holding n)) (sym e) (walk_pends _ p walk)) next on) tt
+        (λ listings stay next on. walks_pend _ c (subst (Pends (w.desk.holding n)) (sym e) (walk_pends _ p walk)) next on) tt (λ ids. tt)
+    on_plan p e k (Applying_all parts) = outcomes eq After w n c plan.Apply (plan.End ∷ plan.Candidates parts ∷ []) (λ f. tt, λ y ys f. tt)
+    on_plan p e k (Ending_all parts) = outcomes eq After w n c plan.End (plan.Candidates parts ∷ []) tt
     on_plan p e k (Idling rest t) = outcomes eq After w n c plan.Idle rest (tail_pends _ c rest t)
 
 -- ---- of a state
@@ -357,6 +371,14 @@ module _ {K V E : Type 0} (eq : K → K → Bool) where
     };
   }
 
+  -- the moment of a write that is to be made is pending
+  pub write_pends : (s : State K V E) (n : ℕ) (c : Call K V E) (key : K) (value : V) (moment : ℕ) (rest : List (Item K V E)) → IsReached eq s →
+      s.calls n ≡ Some c → c.plan ≡ plan.Write key value moment ∷ rest → pending_of s.world.desk n ≡ Some moment
+  write_pends s n c key value moment rest h live e =
+      let i : IsPlaced s = in_reached eq IsPlaced placed_kept s h in
+      let q : Pends (s.world.desk.holding n) c.plan = subst (λ v. Pends (s.world.desk.holding n) (plan_left v)) live (i.pends n) in
+      ap (option_and_then moment_of) (subst (Pends (s.world.desk.holding n)) e q)
+
   -- ---- what follows
 
   -- what a place of its own is for
@@ -386,7 +408,7 @@ module _ {K V E : Type 0} (eq : K → K → Bool) where
   used n pending p (Turning x rest d) k q = inr (x, refl, k.0)
   used n pending p (Applying x rest d) k q = inr (x, refl, k.0)
   used n pending p (Ending x rest d) k q = inr (x, refl, k.0)
-  used n pending p (Writing key value moment rest t) k q = inl (is_pending pending q)
+  used n pending p (Writing key value moment rest t) k q = inl (is_pending pending (moment, q))
   used n pending p (Taking removal key) k q = inl (is_pending pending q)
   used n pending p (Freeing rest t) k q = inl (either_pending pending q)
   used n pending p (Idling rest t) k q = inl (is_pending pending q)

@@ -2,6 +2,7 @@
 use Rattle.std.proofs.Common.{◌≡◌, ℕ, ◌+◌, ◌<◌, ◌==◌, Bool, true, false, List, [], ◌∷◌, Option, Some, None, refl, subst, arith}
 use Rattle.std.proofs.lemmas.Bool.Decides.{nat_tests}
 use Rattle.moka_hist.specs.State.{State, Call, World}
+use Rattle.moka_hist.specs.Maintenance.{carrying}
 use Rattle.moka_hist.specs.Plan.{Item, Aim, Removal, plan_of, is_disabled}
 use Rattle.moka_hist.specs.Plan as plan
 use Rattle.moka_hist.specs.Next.{Next, goes}
@@ -27,10 +28,10 @@ use Rattle.moka_hist.specs.declared.visits.Settled.{Settled}
 use Rattle.moka_hist.specs.declared.visits.Settled.TheVariants as settled
 use Rattle.moka_hist.specs.declared.visits.Found.TheVariants as found
 use Rattle.moka_hist.specs.declared.writes.Write as write
-use Rattle.moka_laws.proofs.Rules.{put_plans, loaded_plans, kept_next, chosen_next, read_key_next, told_op_next, IsFresh, Disabled, Gets, Loads, Owns, Computes, Computes_alone, Finds_or_puts, Gives_back, Puts, Locks_and_puts, Takes_out, Locks_and_takes_out, Evicts, Invalidates_all, Registers, Walks_over, Locks_and_evicts, fresh_plan}
+use Rattle.moka_laws.proofs.Rules.{put_plans, loaded_plans, kept_next, chosen_next, read_key_next, told_op_next, IsFresh, Disabled, Gets, Loads, Owns, Computes, Computes_alone, Finds_or_puts, Gives_back, Puts, Locks_and_puts, Takes_out, Locks_and_takes_out, Evicts, Invalidates_all, Registers, Walks_over, Maintains, Locks_and_evicts, fresh_plan}
 use Rattle.moka_laws.proofs.StepCases.{OnStep, step_cases}
 use Rattle.moka_laws.proofs.Outcomes.{alone_of, outcomes, OwnsKey}
-use Rattle.moka_laws.proofs.Walks.{IsWalk, Walks, Walks_giving, Walks_on, Walks_still, on_walk, walk_is_walk}
+use Rattle.moka_laws.proofs.Walks.{Chooses, IsWalk, Walks, Walks_carrying, Walks_free, Walks_giving, Walks_on, Walks_still, on_walk, walk_is_walk}
 use Rattle.moka_laws.proofs.Kept.{IsInvariant, in_reached}
 use Rattle.moka_laws.proofs.Counting.{none_some, put_cases}
 
@@ -63,6 +64,9 @@ module _ {K V E : Type 0} where
         IsDrained (plan.Moment (plan.To_take_out removal key) ∷ [])
     Locking_out : (removal : Removal K) (key : K) →
         IsDrained (plan.Lock key ∷ plan.Moment (plan.To_take_out removal key) ∷ [])
+    -- maintenance applies the log
+    Maintaining : (parts : ℕ) →
+        IsDrained (plan.Turn ∷ plan.Apply ∷ plan.End ∷ plan.Candidates parts ∷ [])
 
   -- what is left once a write is posted: more may be owed, or it was the call's own
   pub data IsPosted : List (Item K V E) → Type 0 where
@@ -112,6 +116,9 @@ module _ {K V E : Type 0} where
     Hiding : IsPlan (plan.Invalidate_all ∷ plan.Reply answer.Done ∷ [])
     Registering : (test : ℕ) → IsPlan (plan.Register test ∷ [])
     Walking : (rest : List (Item K V E)) → IsWalk rest → IsPlan rest
+    -- maintenance applies the log, and ends its turn
+    Applying_all : (parts : ℕ) → IsPlan (plan.Apply ∷ plan.End ∷ plan.Candidates parts ∷ [])
+    Ending_all : (parts : ℕ) → IsPlan (plan.End ∷ plan.Candidates parts ∷ [])
 
   -- the call's plan has one of these forms, and it has not given up yet
   pub record IsKnown (c : Call K V E) : Type 0 where
@@ -225,6 +232,7 @@ module _ {K V E : Type 0} where
   fresh_form rules p Invalidates_all = Hiding
   fresh_form rules p (Registers test) = Registering test
   fresh_form rules p (Walks_over parts able) = Walking _ (walk_is_walk 0 parts)
+  fresh_form rules p (Maintains parts able) = Posted _ (Draining _ (Maintaining parts))
   fresh_form rules p (Evicts key stamp cause off) = Finding key stamp cause
   fresh_form rules p (Locks_and_evicts key stamp cause on) = Choosing key stamp cause
 
@@ -240,6 +248,8 @@ module _ {K V E : Type 0} where
     walks_known next (Walks_on rest walk) = goes_known c rest h.young (Walking rest walk)
     walks_known next Walks_still = record { plan = h.plan; young = h.young }
     walks_known next (Walks_giving key value rest walk) = record { plan = Walking rest walk; young = h.young }
+    walks_known next (Walks_carrying ids rest walk) = goes_known (carrying c ids) rest h.young (Walking rest walk)
+    walks_known next Walks_free = tt
 
     on_tail : (p : List (Item K V E)) → IsTail p → OnStep eq Leaves w n c p
     on_tail p (Answering a) = outcomes eq Leaves w n c (plan.Reply a) [] tt
@@ -275,6 +285,8 @@ module _ {K V E : Type 0} where
           (λ e. record { plan = Drained _ (Removing removal key); young = h.young }),
           λ e. record { plan = h.plan; young = h.young },
         )
+    on_drained p (Maintaining parts) = outcomes eq Leaves w n c plan.Turn (plan.Apply ∷ plan.End ∷ plan.Candidates parts ∷ [])
+        ((λ e. record { plan = Applying_all parts; young = h.young }), λ e. record { plan = h.plan; young = h.young })
 
     on_posted : (p : List (Item K V E)) → IsPosted p → OnStep eq Leaves w n c p
     on_posted p (Draining rest d) = outcomes eq Leaves w n c plan.Drain rest (
@@ -373,7 +385,11 @@ module _ {K V E : Type 0} where
         (goes_known c rest h.young (Posted _ (Ended _ t)))
     on_plan p Hiding = outcomes eq Leaves w n c plan.Invalidate_all (plan.Reply answer.Done ∷ []) tt
     on_plan p (Registering test) = outcomes eq Leaves w n c (plan.Register test) [] tt
-    on_plan p (Walking rest walk) = on_walk eq Leaves w n c rest walk (λ listings stay next on. walks_known next on) tt
+    on_plan p (Walking rest walk) = on_walk eq Leaves w n c rest walk (λ listings stay next on. walks_known next on) tt (λ ids. tt)
+    on_plan p (Applying_all parts) = outcomes eq Leaves w n c plan.Apply (plan.End ∷ plan.Candidates parts ∷ [])
+        ((λ e. record { plan = Ending_all parts; young = h.young }), λ y ys e. record { plan = Applying_all parts; young = h.young })
+    on_plan p (Ending_all parts) = outcomes eq Leaves w n c plan.End (plan.Candidates parts ∷ [])
+        (record { plan = Walking _ (Chooses parts); young = h.young })
     on_plan p (Idling rest t) = outcomes eq Leaves w n c plan.Idle rest
         (goes_known c rest h.young (Posted _ (Ended _ t)))
 

@@ -66,6 +66,9 @@ module _ {K V E : Type 0} where
   may_write (plan.List_keys part) = 0
   may_write (plan.Find key) = 0
   may_write (plan.Scan there found) = 0
+  may_write (plan.Candidates parts) = 0
+  may_write (plan.Strike there found) = 0
+  may_write plan.Retire = 0
   may_write (plan.Settle with) = 0
   may_write (plan.Reply answer) = 0
   may_write _ = 1
@@ -139,10 +142,10 @@ module _ {K V E : Type 0} where
   fresh_form : (rules : Rules) (p : List (Item K V E)) → IsFresh rules p → IsClearPlan p
   fresh_form rules p (Disabled a d plain) = record { late = refl; posts = λ x. refl; may = omega arith }
   fresh_form rules p (Walks_over parts able) = record {
-    late = late_none p (weigh_walk any_post (record { list = λ part. refl; find = λ key. refl; scan = λ there stored. refl; end = refl }) p (walk_is_walk 0 parts));
-    posts = λ x. weigh_walk (post_of x) (record { list = λ part. refl; find = λ key. refl; scan = λ there stored. refl; end = refl }) p (walk_is_walk 0 parts);
+    late = late_none p (weigh_walk any_post (record { list = λ part. refl; find = λ key. refl; scan = λ there stored. refl; end = refl; choose = λ parts. refl; strike = λ there stored. refl; retire = refl }) p (walk_is_walk 0 parts));
+    posts = λ x. weigh_walk (post_of x) (record { list = λ part. refl; find = λ key. refl; scan = λ there stored. refl; end = refl; choose = λ parts. refl; strike = λ there stored. refl; retire = refl }) p (walk_is_walk 0 parts);
     may = omega
-        (arith, weigh_walk may_write (record { list = λ part. refl; find = λ key. refl; scan = λ there stored. refl; end = refl }) p (walk_is_walk 0 parts));
+        (arith, weigh_walk may_write (record { list = λ part. refl; find = λ key. refl; scan = λ there stored. refl; end = refl; choose = λ parts. refl; strike = λ there stored. refl; retire = refl }) p (walk_is_walk 0 parts));
   }
   fresh_form rules p _ = record { late = refl; posts = λ x. refl; may = omega arith }
 

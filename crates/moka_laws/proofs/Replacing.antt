@@ -43,7 +43,7 @@ use Rattle.moka_laws.proofs.Balance.{IsBalanced, times_first}
 use Rattle.moka_laws.proofs.Balanced.{balanced_kept, next_free}
 use Rattle.moka_laws.proofs.Locking.{IsLocking, locking_kept, of_key}
 use Rattle.moka_laws.proofs.Owning.{plan_left}
-use Rattle.moka_laws.proofs.Plans.{IsTail, Answering, Settling, IsDrained, Looking, Putting, IsPosted, Draining, Ended, Locking, IsPlan, Posted, Drained, Posting, Hearing, Noticing, Listening, Unlocking, Turning, Applying, Ending, Judging, Owning, Giving, Reading, Asking, Telling, Writing, IsKnown, known_kept, IsLook, Removing, Locking_out, Choosing, Finding, Chosen, Taking, Freeing, Hiding, Registering, Idling, Asking_op, Owning_key, Owning_alone, Reading_key, Telling_op, Walking}
+use Rattle.moka_laws.proofs.Plans.{IsTail, Answering, Settling, IsDrained, Looking, Putting, IsPosted, Draining, Ended, Locking, IsPlan, Posted, Drained, Posting, Hearing, Noticing, Listening, Unlocking, Turning, Applying, Ending, Judging, Owning, Giving, Reading, Asking, Telling, Writing, IsKnown, known_kept, IsLook, Removing, Locking_out, Choosing, Finding, Chosen, Taking, Freeing, Hiding, Registering, Idling, Asking_op, Owning_key, Owning_alone, Reading_key, Telling_op, Walking, Maintaining, Applying_all, Ending_all}
 use Rattle.moka_laws.proofs.Rules.{abort_next, put_plans, loaded_plans, kept_next, chosen_next, IsFresh, Disabled, fresh_plan, read_key_next, told_op_next, Walks_over}
 use Rattle.moka_laws.proofs.Kept.{IsInvariant, in_reached}
 use Rattle.moka_laws.proofs.StepCases.{OnStep, step_cases}
@@ -220,7 +220,7 @@ module _ {K V E : Type 0} where
   fresh_form : (rules : Rules) (p : List (Item K V E)) → IsFresh rules p → ClearPlan p
   fresh_form rules p (Disabled a d plain) = record { swaps = λ x. refl; notice = refl }
   fresh_form rules p (Walks_over parts able) =
-      record { swaps = λ x. weigh_walk (swap_of x) (record { list = λ part. refl; find = λ key. refl; scan = λ there stored. refl; end = refl }) p (walk_is_walk 0 parts); notice = weigh_walk notice_of (record { list = λ part. refl; find = λ key. refl; scan = λ there stored. refl; end = refl }) p (walk_is_walk 0 parts) }
+      record { swaps = λ x. weigh_walk (swap_of x) (record { list = λ part. refl; find = λ key. refl; scan = λ there stored. refl; end = refl; choose = λ parts. refl; strike = λ there stored. refl; retire = refl }) p (walk_is_walk 0 parts); notice = weigh_walk notice_of (record { list = λ part. refl; find = λ key. refl; scan = λ there stored. refl; end = refl; choose = λ parts. refl; strike = λ there stored. refl; retire = refl }) p (walk_is_walk 0 parts) }
   fresh_form rules p _ = record { swaps = λ x. refl; notice = refl }
 
   fresh_clear : (parts : ℕ) (rules : Rules) (start : Start K V) → Clear (Some (fresh_call parts rules start))
@@ -323,7 +323,7 @@ module _ {K V E : Type 0} where
   plan_opens p (Writing key value moment rest t) h = absurd (omega (arith, (tail_clear rest t).0))
   plan_opens p (Freeing rest t) h = absurd (omega (arith, (tail_clear rest t).0))
   plan_opens p (Idling rest t) h = absurd (omega (arith, (tail_clear rest t).0))
-  plan_opens p (Walking rest walk) h = absurd (omega (arith, weigh_walk notice_of (record { list = λ part. refl; find = λ key. refl; scan = λ there stored. refl; end = refl }) p walk))
+  plan_opens p (Walking rest walk) h = absurd (omega (arith, weigh_walk notice_of (record { list = λ part. refl; find = λ key. refl; scan = λ there stored. refl; end = refl; choose = λ parts. refl; strike = λ there stored. refl; retire = refl }) p walk))
   plan_opens p _ h = absurd (omega arith)
 
   pub opens_notice : (p : List (Item K V E)) → OpensNotice p → 0 < weigh notice_of p
@@ -380,6 +380,10 @@ module _ {K V E : Type 0} where
           (λ free. same eq w n c p refl refl refl (λ some. refl) (omega arith) (λ x. omega arith)),
           λ held. stays_put eq w n c p mode.Parked turn.Wait w.stay e refl,
         )
+    on_drained p e (Maintaining parts) = outcomes eq (Made p) w n c plan.Turn (plan.Apply ∷ plan.End ∷ plan.Candidates parts ∷ []) (
+      (λ free. same eq w n c p refl refl refl (λ some. refl) (omega arith) (λ x. omega arith)),
+      λ taken. stays_put eq w n c p mode.Parked turn.Wait w.stay e refl,
+    )
 
     on_posted : (p : List (Item K V E)) → c.plan ≡ p → IsPosted p → OnStep eq (Made p) w n c p
     on_posted p e (Draining rest d) = outcomes eq (Made p) w n c plan.Drain rest (
@@ -585,15 +589,23 @@ module _ {K V E : Type 0} where
     on_plan p e (Registering test) = outcomes eq (Made p) w n c (plan.Register test) []
         (clears eq w n c p refl refl refl (record { swaps = λ x. refl; notice = refl }) refl
         (λ x. refl) (λ x. refl))
+    on_plan p e (Applying_all parts) = outcomes eq (Made p) w n c plan.Apply (plan.End ∷ plan.Candidates parts ∷ []) (
+      (λ none. same eq w n c p refl refl refl (λ some. refl) (omega arith) (λ x. omega arith)),
+      λ y ys some. same eq w n c p refl refl refl (λ some. refl) (omega arith) (λ x. omega (arith, ap (swaps x) some, swaps_last x w.desk.applied y)),
+    )
+    on_plan p e (Ending_all parts) = outcomes eq (Made p) w n c plan.End (plan.Candidates parts ∷ [])
+        (same eq w n c p refl refl refl (λ some. refl) (omega arith) (λ x. omega arith))
     on_plan p e (Walking rest walk) =
-        let light : (x : ℕ) → IsLight {K = K} {V = V} {E = E} (swap_of x) = λ x. (record { list = λ part. refl; find = λ key. refl; scan = λ there stored. refl; end = refl }) in
-        let told : IsLight {K = K} {V = V} {E = E} notice_of = (record { list = λ part. refl; find = λ key. refl; scan = λ there stored. refl; end = refl }) in
+        let light : (x : ℕ) → IsLight {K = K} {V = V} {E = E} (swap_of x) = λ x. (record { list = λ part. refl; find = λ key. refl; scan = λ there stored. refl; end = refl; choose = λ parts. refl; strike = λ there stored. refl; retire = refl }) in
+        let told : IsLight {K = K} {V = V} {E = E} notice_of = (record { list = λ part. refl; find = λ key. refl; scan = λ there stored. refl; end = refl; choose = λ parts. refl; strike = λ there stored. refl; retire = refl }) in
         on_walk eq (Made p) w n c rest walk
         (λ listings stay next on. clears eq w n c p refl refl refl (record {
           swaps = λ x. walks_weigh (swap_of x) (light x) (λ a. refl) c (ap (weigh (swap_of x)) e ∙ weigh_walk (swap_of x) (light x) p walk) next on;
           notice = walks_weigh notice_of told (λ a. refl) c (ap (weigh notice_of) e ∙ weigh_walk notice_of told p walk) next on;
         }) (weigh_walk notice_of told p walk) (λ x. weigh_walk (swap_of x) (light x) p walk) (λ x. refl))
         (clears eq w n c p refl refl refl (record { swaps = λ x. refl; notice = refl })
+        (weigh_walk notice_of told p walk) (λ x. weigh_walk (swap_of x) (light x) p walk) (λ x. refl))
+        (λ ids. clears eq w n c p refl refl refl (record { swaps = λ x. refl; notice = refl })
         (weigh_walk notice_of told p walk) (λ x. weigh_walk (swap_of x) (light x) p walk) (λ x. refl))
     on_plan p e (Idling _ (Answering a)) = outcomes eq (Made p) w n c plan.Idle (plan.Reply a ∷ [])
         (clears eq w n c p refl refl refl (record { swaps = λ x. refl; notice = refl }) refl

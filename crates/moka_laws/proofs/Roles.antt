@@ -18,14 +18,14 @@ use Rattle.moka_hist.specs.declared.visits.Settled.TheVariants as settled
 use Rattle.moka_hist.specs.declared.visits.Found.TheVariants as found
 use Rattle.moka_laws.specs.Missing.{waits_for}
 use Rattle.moka_laws.proofs.Counting.{none_some}
-use Rattle.moka_laws.proofs.Rules.{abort_next, put_plans, loaded_plans, kept_next, chosen_next, IsFresh, Takes_out, Locks_and_takes_out, fresh_plan, told_op_next, Walks_over}
+use Rattle.moka_laws.proofs.Rules.{abort_next, put_plans, loaded_plans, kept_next, chosen_next, IsFresh, Takes_out, Locks_and_takes_out, fresh_plan, told_op_next, Walks_over, Maintains}
 use Rattle.moka_laws.proofs.Weights.{weigh}
 use Rattle.moka_laws.proofs.Owning.{plan_left}
 use Rattle.moka_laws.proofs.Outcomes.{computes_of}
 use Rattle.moka_laws.proofs.Plans.{IsLook}
 use Rattle.moka_hist.specs.declared.loads.Compute.{Compute}
 use Rattle.moka_hist.specs.Computing.{after_told_op, after_read_key}
-use Rattle.moka_laws.proofs.Walks.{IsWalk, Ends, Lists, Finds, Scans, weigh_walk, walk_is_walk}
+use Rattle.moka_laws.proofs.Walks.{IsWalk, Ends, Lists, Finds, Scans, weigh_walk, walk_is_walk, Chooses, Retires, Strikes}
 
 module _ {K V E : Type 0} where
   -- an item that answers, or says itself how the call goes on, is the plan's last
@@ -46,6 +46,8 @@ module _ {K V E : Type 0} where
   IsLast (plan.Moment (plan.To_take_out removal key) ∷ rest) = rest ≡ []
   IsLast (plan.Out removal key ∷ rest) = rest ≡ []
   IsLast (plan.Register test ∷ rest) = rest ≡ []
+  IsLast (plan.Candidates parts ∷ rest) = rest ≡ []
+  IsLast (plan.Retire ∷ rest) = rest ≡ []
   IsLast (plan.Reply answer ∷ rest) = rest ≡ []
   IsLast (_ ∷ rest) = IsLast rest
 
@@ -215,14 +217,20 @@ module _ {K V E : Type 0} where
   finds_await [] rest = refl
   finds_await (key ∷ keys) rest = finds_await keys rest
 
-  walk_last : (p : List (Item K V E)) → IsWalk p → IsLast p
+  pub walk_last : (p : List (Item K V E)) → IsWalk p → IsLast p
   walk_last p Ends = refl
+  walk_last p Retires = refl
+  walk_last p (Chooses parts) = refl
+  walk_last p (Strikes there stored rest walk) = walk_last rest walk
   walk_last p (Lists part rest walk) = walk_last rest walk
   walk_last p (Finds key rest walk) = walk_last rest walk
   walk_last p (Scans there stored rest walk) = walk_last rest walk
 
   pub walk_awaits : (p : List (Item K V E)) → IsWalk p → awaited p ≡ None
   walk_awaits p Ends = refl
+  walk_awaits p Retires = refl
+  walk_awaits p (Chooses parts) = refl
+  walk_awaits p (Strikes there stored rest walk) = walk_awaits rest walk
   walk_awaits p (Lists part rest walk) = walk_awaits rest walk
   walk_awaits p (Finds key rest walk) = walk_awaits rest walk
   walk_awaits p (Scans there stored rest walk) = walk_awaits rest walk
@@ -231,7 +239,8 @@ module _ {K V E : Type 0} where
   fresh_form rules p (Takes_out (plan.To_remove_as_told own) key off named) = absurd named
   fresh_form rules p (Locks_and_takes_out (plan.To_remove_as_told own) key on named) = absurd named
   fresh_form rules p (Walks_over parts able) =
-      record { last = walk_last p (walk_is_walk 0 parts); owning = weigh_walk owners (record { list = λ part. refl; find = λ key. refl; scan = λ there stored. refl; end = refl }) p (walk_is_walk 0 parts); waiting = ap is_some (sym (walk_awaits p (walk_is_walk 0 parts))) }
+      record { last = walk_last p (walk_is_walk 0 parts); owning = weigh_walk owners (record { list = λ part. refl; find = λ key. refl; scan = λ there stored. refl; end = refl; choose = λ parts. refl; strike = λ there stored. refl; retire = refl }) p (walk_is_walk 0 parts); waiting = ap is_some (sym (walk_awaits p (walk_is_walk 0 parts))) }
+  fresh_form rules p (Maintains parts able) = record { last = refl; owning = refl; waiting = refl }
   fresh_form rules p _ = record { last = refl; owning = refl; waiting = refl }
 
   pub fresh_fits : (parts : ℕ) (rules : Rules) (start : Start K V) → Fits None None (plan_of parts rules start)

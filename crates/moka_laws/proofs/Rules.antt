@@ -10,7 +10,7 @@ use Rattle.moka_hist.specs.Writing.{said}
 use Rattle.moka_hist.specs.Loading.{after_abort, retries}
 use Rattle.moka_hist.specs.Computing.{after_read_key, after_told_op, end_compute, put_told}
 use Rattle.moka_hist.specs.Looking.{shown, keeps, kept_rest, finds_pair, chosen_or_not}
-use Rattle.moka_hist.specs.Plan.{Item, Aim, Shown, Removal, put, under_lock, take_out, is_disabled, told_on, load_rest, loaded, get_plan, insert_plan, load_plan, or_insert_plan, iter_plan, seek, plan_of, walk_from}
+use Rattle.moka_hist.specs.Plan.{Item, Aim, Shown, Removal, put, under_lock, take_out, is_disabled, told_on, load_rest, loaded, get_plan, insert_plan, load_plan, or_insert_plan, iter_plan, pending_plan, seek, plan_of, walk_from}
 use Rattle.moka_hist.specs.Plan as plan
 use Rattle.moka_hist.specs.declared.predicates.PredicateError.{PredicateError}
 use Rattle.moka_hist.specs.declared.predicates.PredicateError.TheVariants as refused
@@ -342,6 +342,7 @@ module _ {K V E : Type 0} where
     Invalidates_all : IsFresh rules (plan.Invalidate_all ∷ plan.Reply answer.Done ∷ [])
     Registers : (test : ℕ) → IsFresh rules (plan.Register test ∷ [])
     Walks_over : (parts : ℕ) → is_disabled rules ≡ false → IsFresh rules (walk_from 0 parts)
+    Maintains : (parts : ℕ) → is_disabled rules ≡ false → IsFresh rules (pending_plan false parts)
     Evicts : (key : K) (stamp : _) (cause : Cause) → rules.listener ≡ false →
         IsFresh rules (plan.Get (plan.To_evict key stamp cause) key ∷ [])
     Locks_and_evicts : (key : K) (stamp : _) (cause : Cause) → rules.listener ≡ true →
@@ -391,6 +392,11 @@ module _ {K V E : Type 0} where
       by : (b : Bool) → is_disabled rules ≡ b → IsFresh rules (iter_plan b parts)
       by true e = Disabled answer.End e tt
       by false e = Walks_over parts e
+  fresh_plan parts rules start.Pending = by (is_disabled rules) refl
+    where
+      by : (b : Bool) → is_disabled rules ≡ b → IsFresh rules (pending_plan b parts)
+      by true e = Disabled answer.Done e tt
+      by false e = Maintains parts e
   fresh_plan parts rules (start.Evict key stamp cause) = by rules.listener refl
     where
       by : (listener : Bool) → rules.listener ≡ listener →

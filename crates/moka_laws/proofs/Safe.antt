@@ -1,5 +1,5 @@
 -- What the desk needs for the next visit of a live call it has.
-use Rattle.std.proofs.Common.{◌≡◌, ℕ, ◌||◌, Bool, true, false, cond, List, [], ◌∷◌, Option, Some, None, is_some, IsSome, IsNone, refl, sym, ap, ◌∙◌, subst, arith}
+use Rattle.std.proofs.Common.{◌≡◌, ℕ, ◌||◌, Bool, true, false, cond, List, [], ◌∷◌, Option, Some, None, is_some, IsSome, IsNone, refl, sym, ap, ◌∙◌, subst, arith, ◌≤◌}
 use Rattle.moka_hist.specs.State.{State, Call, DeskPart}
 use Rattle.moka_hist.specs.Plan.{Item, Aim}
 use Rattle.moka_hist.specs.Plan as plan
@@ -23,6 +23,8 @@ use Rattle.moka_laws.proofs.Outcomes.{computes_of}
 use Rattle.moka_laws.proofs.Unsettled.{IsUnsettled, owners_unsettled, unsettled_kept}
 use Rattle.moka_laws.proofs.Replacing.{IsReplacing, replacing_kept, not_opened}
 use Rattle.moka_laws.proofs.Kept.{IsInvariant, in_reached}
+use Rattle.moka_hist.specs.Visits.{moment_of, pending_of}
+use Rattle.std.specs.Option.{option_and_then}
 
 none_is : {A : Type 0} (o : Option A) → o ≡ None → IsNone o
 none_is o e = ap is_some e
@@ -137,9 +139,20 @@ module _ {K V E : Type 0} (eq : K → K → Bool) where
   pub in_well : (s : State K V E) → IsReached eq s → IsWell s
   in_well s h = in_reached eq IsWell well_kept s h
 
+module _ {K V E : Type 0} (eq : K → K → Bool) (s : State K V E) (well : IsWell eq s) where
+  -- a call that has taken a moment is live, and was given its number
+  pub pending_started : (n moment : ℕ) → pending_of s.world.desk n ≡ Some moment → n ≤ s.world.desk.last
+  pending_started n moment e = by (s.calls n) refl
+    where
+      by : (o : Option (Call K V E)) → s.calls n ≡ o → n ≤ s.world.desk.last
+      by (Some c) live = well.holding.balanced.numbered n c live
+      by None gone =
+          let none : s.world.desk.holding n ≡ None = subst (λ v. HoldsAs n (s.world.desk.holding n) (plan_left v)) gone (well.holding.holds n) in
+          absurd (none_some (sym (ap (option_and_then moment_of) none) ∙ e))
+
 module _ {K V E : Type 0} (eq : K → K → Bool) (s : State K V E) (well : IsWell eq s) (n : ℕ) (c : Call K V E) (live : s.calls n ≡ Some c) where
   abbrev May_for : Item K V E → Type 0
-  May_for item = May s.world (access_for n item)
+  May_for item = May s.world (access_for n c.carried item)
 
   may_item : (item : Item K V E) (rest : List (Item K V E)) → c.plan ≡ item ∷ rest → Stands s.world.desk n (item ∷ rest) → May_for item
   may_item plan.Drain rest e k = none_is _ k.holds.0
@@ -199,7 +212,8 @@ module _ {K V E : Type 0} (eq : K → K → Bool) (s : State K V E) (well : IsWe
     locks = subst (λ v. Locks s.world.desk.rules.listener (s.world.desk.locked n) (plan_left v)) live (well.replacing.locking.locks n);
   }
 
-  by_plan : (rules : Rules) (mode : Mode) (plan : List (Item K V E)) (aborts : ℕ) → c.plan ≡ plan → May s.world (access_of n (record { rules = rules; mode = mode; plan = plan; aborts = aborts }))
+  by_plan : (rules : Rules) (mode : Mode) (plan : List (Item K V E)) (aborts : ℕ) →
+      c.plan ≡ plan → May s.world (access_of n (record { rules = rules; mode = mode; plan = plan; aborts = aborts; carried = c.carried }))
   by_plan rules mode [] aborts e = λ write is.
       none_some (sym (subst (HoldsAs n (s.world.desk.holding n)) e stands.holds) ∙ is)
   by_plan rules mode (item ∷ rest) aborts e = may_item item rest e (subst (Stands s.world.desk n) e stands)

@@ -1,7 +1,7 @@
 -- Each item of a plan keeps what those that wait for owners count on.
 use Rattle.std.proofs.Common.{ap, ◌≡◌, ℕ, ◌+◌, ◌≤◌, ◌==◌, Bool, true, false, List, [], ◌∷◌, Option, Some, None, is_some, refl, sym, ◌∙◌, subst, arith, map, ◌++◌}
 use Rattle.moka_hist.specs.State.{World, Call}
-use Rattle.moka_hist.specs.Plan.{Item, Aim}
+use Rattle.moka_hist.specs.Plan.{Item, Aim, lists_from}
 use Rattle.moka_hist.specs.Plan as plan
 use Rattle.moka_hist.specs.Looking.{hits}
 use Rattle.moka_hist.specs.Next.{Next, goes}
@@ -17,12 +17,13 @@ use Rattle.moka_laws.proofs.StepCases.{OnStep}
 use Rattle.moka_laws.proofs.Outcomes.{Outcomes, outcomes, computes_of, passes_by}
 use Rattle.moka_laws.proofs.Answering.{HasAnswers, settlement_ready}
 use Rattle.moka_laws.proofs.Owning.{plan_left}
-use Rattle.moka_laws.proofs.Roles.{IsLast, owners, Fits, awaited, goes_fits, keeps_fits, misses_fits, unseen_fits, finds_fits, hits_fits, told_fits, read_fits, read_key_fits, goes_awaits, keeps_awaits, misses_awaits, finds_awaits, hits_awaits, finds_last, finds_await}
+use Rattle.moka_laws.proofs.Roles.{IsLast, owners, Fits, awaited, goes_fits, keeps_fits, misses_fits, unseen_fits, finds_fits, hits_fits, told_fits, read_fits, read_key_fits, goes_awaits, keeps_awaits, misses_awaits, finds_awaits, hits_awaits, finds_last, finds_await, walk_last, walk_awaits}
 use Rattle.moka_laws.proofs.Reading.{joins, Answered, OwnerOf}
 use Rattle.moka_laws.proofs.Serving.{ServesPart, part, no_load, no_owner, at_most_one, keeps, keeps_none, claims, joins_owner, joins_key_owner, leaves_owner, ends_own}
 use Rattle.moka_hist.specs.declared.loads.Compute.{Compute}
 use Rattle.moka_hist.specs.Computing.{after_told_op}
-use Rattle.moka_laws.proofs.Walks.{weigh_finds}
+use Rattle.moka_laws.proofs.Walks.{weigh_finds, IsWalk, retiring_walk, weigh_retiring}
+use Rattle.moka_hist.specs.Maintenance.{carrying}
 
 module _ {K V E : Type 0} (eq : K → K → Bool) (w : World K V E) (n : ℕ) (c : Call K V E)
     (owner : (load : Load K) (o : ℕ) → w.desk.owners load ≡ Some o → OwnerOf eq w.desk.owning o load)
@@ -46,11 +47,14 @@ module _ {K V E : Type 0} (eq : K → K → Bool) (w : World K V E) (n : ℕ) (c
       ServesPart eq w.desk n (part w.desk) left
   goes_free f none = keeps_none eq w.desk n owner enough enough_own f none
 
-  rest_plans : (rest : List (Item K V E)) → Plans rest → Plans (plan_left (goes c rest).left)
-  rest_plans rest p = record { fits = goes_fits _ _ c rest p.fits; own = λ o load j a. p.own o load j (sym (goes_awaits c rest) ∙ a) }
+  rest_plans : (d : Call K V E) (rest : List (Item K V E)) → Plans rest → Plans (plan_left (goes d rest).left)
+  rest_plans d rest p = record { fits = goes_fits _ _ d rest p.fits; own = λ o load j a. p.own o load j (sym (goes_awaits d rest) ∙ a) }
+
+  goes_as : (d : Call K V E) (rest : List (Item K V E)) → Plans rest → ServesPart eq w.desk n (part w.desk) (goes d rest).left
+  goes_as d rest p = goes_with (goes d rest).left (rest_plans d rest p)
 
   goes_rest : (rest : List (Item K V E)) → Plans rest → ServesPart eq w.desk n (part w.desk) (goes c rest).left
-  goes_rest rest p = goes_with (goes c rest).left (rest_plans rest p)
+  goes_rest rest p = goes_as c rest p
 
   -- the plan's one item, where that is the last
   alone : (item : Item K V E) (rest : List (Item K V E)) → rest ≡ [] → Plans (item ∷ rest) →
@@ -261,7 +265,8 @@ module _ {K V E : Type 0} (eq : K → K → Bool) (w : World K V E) (n : ℕ) (c
   on_item (plan.Find key) rest p q = (
     λ more. goes_with _ p,
     λ none. goes_rest rest (like rest _ q q.fits.last (omega arith) refl),
-    λ k stored some. goes_with _ (like (plan.Scan k stored ∷ rest) _ q q.fits.last (omega arith) refl),
+    λ k stored some none. goes_with _ (like (plan.Scan k stored ∷ rest) _ q q.fits.last (omega arith) refl),
+    λ k stored ids some is. goes_with _ (like (plan.Strike k stored ∷ rest) _ q q.fits.last (omega arith) refl),
   )
   on_item (plan.Scan there stored) rest p q = (
     λ seen. goes_with _ (like rest _ q q.fits.last (omega arith) refl),
@@ -269,6 +274,24 @@ module _ {K V E : Type 0} (eq : K → K → Bool) (w : World K V E) (n : ℕ) (c
   )
   on_item (plan.Register test) rest p q =
       let f = alone (plan.Register test) rest q.fits.last q in
+      goes_free (record { last = tt; owning = omega (arith, f.owning); waiting = f.waiting }) refl
+  on_item (plan.Candidates parts) rest p q =
+      let f = alone (plan.Candidates parts) rest q.fits.last q in (
+        λ none. goes_free (record { last = tt; owning = omega (arith, f.owning); waiting = f.waiting }) refl,
+        λ id more some.
+            let lists : List (Item K V E) = lists_from 0 parts (plan.Retire ∷ []) in
+            let walk : IsWalk lists = retiring_walk parts in
+            goes_free
+            (goes_fits _ _ (carrying c (id ∷ more)) lists (record {
+              last = walk_last lists walk;
+              owning = omega (arith, f.owning, weigh_retiring {K = K} {V = V} {E = E} owners (λ part. refl) refl parts);
+              waiting = f.waiting ∙ sym (ap is_some (walk_awaits lists walk));
+            }))
+            (goes_awaits (carrying c (id ∷ more)) lists ∙ walk_awaits lists walk),
+      )
+  on_item (plan.Strike there stored) rest p q = goes_as (carrying c _) rest (like rest _ q q.fits.last (omega arith) refl)
+  on_item plan.Retire rest p q =
+      let f = alone plan.Retire rest q.fits.last q in
       goes_free (record { last = tt; owning = omega (arith, f.owning); waiting = f.waiting }) refl
   on_item (plan.Reply answer) rest p q =
       let f = alone (plan.Reply answer) rest q.fits.last q in

@@ -56,7 +56,7 @@ module _ {K V E : Type 0} (eq : K → K → Bool) (begin : Start K V)
   step_suits : (n : ℕ) (c : Call K V E) (given : Got K V E) → AllSuit begin c.plan →
       MayBeGiven eq n c given → Leaves begin (next_of n c given)
   step_suits n c given suits gives =
-      by_plan eq (λ w next. Leaves begin next) gives.world n c.rules c.mode c.plan c.aborts given
+      by_plan eq (λ w next. Leaves begin next) gives.world n c.rules c.mode c.plan c.aborts c.carried given
       gives.after gives.gets
       (on_plan begin eq gives.world n c suits (reads_none gives.world n c suits) c.plan refl suits)
 

@@ -1,10 +1,10 @@
 -- What a call has done since it was started: how often it read that an owner was dropped, and asked its
 -- replace test.
-use Rattle.std.proofs.Common.{◌≡◌, ℕ, zero, suc, ◌+◌, ◌≤◌, ◌==◌, nat_lt, Bool, true, false, cond, ◌&&◌, List, [], ◌∷◌, Option, Some, None, is_some, MatchBool, MatchOption, ◌⊎◌, inl, inr, refl, sym, ap, ◌∙◌, subst, arith, map, ◌++◌}
+use Rattle.std.proofs.Common.{◌≡◌, ℕ, zero, suc, ◌+◌, ◌≤◌, ◌==◌, nat_lt, Bool, true, false, cond, ◌&&◌, List, [], ◌∷◌, Option, Some, None, is_some, MatchBool, MatchOption, ◌⊎◌, inl, inr, refl, sym, ap, ◌∙◌, subst, arith, map, ◌++◌, unwrap_or}
 use Rattle.std.specs.Option.{option_map_or}
 use Rattle.moka_hist.specs.Dropping.{dropped}
 use Rattle.moka_hist.specs.State.{State, World, Call, DeskPart}
-use Rattle.moka_hist.specs.Plan.{Item, Aim, plan_of, put, loaded}
+use Rattle.moka_hist.specs.Plan.{Item, Aim, plan_of, put, loaded, lists_from}
 use Rattle.moka_hist.specs.Plan as plan
 use Rattle.moka_hist.specs.Next.{Next, goes, waits}
 use Rattle.moka_hist.specs.Looking.{hits, misses, keeps, kept_rest, finds_pair}
@@ -12,7 +12,7 @@ use Rattle.moka_hist.specs.Loading.{after_read, after_abort, after_told, retries
 use Rattle.moka_hist.specs.Step.{Step, replace_of}
 use Rattle.moka_hist.specs.Telling.{is_asked}
 use Rattle.moka_hist.specs.Telling.{told as tells}
-use Rattle.moka_hist.specs.Visits.{is_seen, settlement_for}
+use Rattle.moka_hist.specs.Visits.{is_seen, settlement_for, struck}
 use Rattle.moka_hist.specs.Run.{Goings, Steps, Polls, Happens, Any, IsReached, Refuses, Becomes, Drops, at_moment, started, with_desk, last_call, fresh_call}
 use Rattle.moka_hist.specs.declared.accesses.Turn.{Turn}
 use Rattle.moka_hist.specs.declared.accesses.Turn.TheVariants as turn
@@ -49,7 +49,8 @@ use Rattle.moka_laws.proofs.StepCases.{OnStep, step_cases}
 use Rattle.moka_laws.proofs.Outcomes.{Outcomes, outcomes, passes_on}
 use Rattle.moka_hist.specs.declared.loads.Compute.{Compute}
 use Rattle.moka_hist.specs.Computing.{after_told_op, after_read_key}
-use Rattle.moka_laws.proofs.Walks.{weigh_walk, weigh_finds, walk_is_walk}
+use Rattle.moka_laws.proofs.Walks.{weigh_walk, weigh_finds, walk_is_walk, weigh_retiring}
+use Rattle.moka_hist.specs.Maintenance.{carrying}
 
 -- ---- how often the test may still be asked
 
@@ -132,7 +133,7 @@ module _ {K V E : Type 0} where
 
   fresh_tests : (rules : Rules) (p : List (Item K V E)) → IsFresh rules p → weigh tests p ≤ 2
   fresh_tests rules p (Disabled a d plain) = omega arith
-  fresh_tests rules p (Walks_over parts able) = omega (arith, weigh_walk tests (record { list = λ part. refl; find = λ key. refl; scan = λ there stored. refl; end = refl }) p (walk_is_walk 0 parts))
+  fresh_tests rules p (Walks_over parts able) = omega (arith, weigh_walk tests (record { list = λ part. refl; find = λ key. refl; scan = λ there stored. refl; end = refl; choose = λ parts. refl; strike = λ there stored. refl; retire = refl }) p (walk_is_walk 0 parts))
   fresh_tests rules p _ = omega arith
 
   -- a call that goes on with the rest may ask no more than that
@@ -224,11 +225,22 @@ module _ {K V E : Type 0} where
     asks_fewer (plan.Find key) rest e = (
       (λ more. omega (arith, ap (weigh tests) e)),
       (λ none. omega (arith, goes_tests c rest)),
-      λ k stored some. omega arith,
+      (λ k stored some none. omega arith),
+      λ k stored ids some is. omega arith,
     )
     asks_fewer (plan.Scan there stored) rest e =
         ((λ seen. omega arith), λ unseen. omega (arith, goes_tests c rest))
     asks_fewer (plan.Register test) rest e = omega arith
+    asks_fewer (plan.Candidates parts) rest e = (
+      (λ none. omega arith),
+      λ id more some. omega (
+        arith,
+        goes_tests (carrying c (id ∷ more)) (lists_from 0 parts (plan.Retire ∷ [])),
+        weigh_retiring {K = K} {V = V} {E = E} tests (λ part. refl) refl parts,
+      ),
+    )
+    asks_fewer (plan.Strike there stored) rest e = omega (arith, goes_tests (carrying c (struck w.desk (unwrap_or c.carried []) there stored)) rest)
+    asks_fewer plan.Retire rest e = omega arith
     asks_fewer (plan.Reply a) rest e = omega arith
     asks_fewer item rest e = passes_on eq (Fewer (item ∷ rest)) w n c item rest tt
         (λ d. omega (arith, goes_tests c rest)) (omega (arith, ap (weigh tests) e))
@@ -382,10 +394,17 @@ module _ {K V E : Type 0} where
     counts (plan.Find key) rest = (
       (λ more. as_often c _ _ refl refl),
       (λ none. goes_counts c rest),
-      λ k stored some. as_often c _ _ refl refl,
+      (λ k stored some none. as_often c _ _ refl refl),
+      λ k stored ids some is. as_often c _ _ refl refl,
     )
     counts (plan.Scan there stored) rest = ((λ seen. as_often c _ _ refl refl), λ unseen. goes_counts c rest)
     counts (plan.Register test) rest = λ d e. absurd (none_some e)
+    counts (plan.Candidates parts) rest = (
+      (λ none d e. absurd (none_some e)),
+      λ id more some. goes_counts (carrying c (id ∷ more)) (lists_from 0 parts (plan.Retire ∷ [])),
+    )
+    counts (plan.Strike there stored) rest = goes_counts (carrying c (struck w.desk (unwrap_or c.carried []) there stored)) rest
+    counts plan.Retire rest = λ d e. absurd (none_some e)
     counts (plan.Reply a) rest = λ d e. absurd (none_some e)
     counts (plan.Notice key old cause upsert) rest =
         (λ e. goes_counts c rest, λ e. as_often c _ _ refl refl)

@@ -1,11 +1,11 @@
 -- A sound desk stays sound, visit by visit.
-use Rattle.std.proofs.Common.{◌≡◌, ℕ, ◌+◌, ◌≤◌, ◌==◌, Bool, true, false, cond, List, [], ◌∷◌, ◌++◌, map, append-nil, Option, Some, None, is_some, refl, sym, ap, ◌∙◌, subst, arith}
-use Rattle.std.proofs.lemmas.Bool.{eqb-true, false≢true}
+use Rattle.std.proofs.Common.{◌≡◌, ℕ, ◌+◌, ◌≤◌, ◌==◌, Bool, true, false, cond, List, [], ◌∷◌, ◌++◌, map, append-nil, Option, Some, None, is_some, refl, sym, ap, ◌∙◌, subst, arith, filter, not, zero, suc, ◌||◌}
+use Rattle.std.proofs.lemmas.Bool.{eqb-true, false≢true, eq-eqb}
 use Rattle.std.specs.Cmp.{IsEquivalence}
 use Rattle.std.specs.Option.{IsSomeAnd, option_map, option_map_or}
 use Rattle.moka_hist.specs.Finite.{load_eq, put_at, put_key, times}
 use Rattle.moka_hist.specs.State.{DeskPart}
-use Rattle.moka_hist.specs.Visits.{claimed_alone, cause_of, claimed, decided, gave_back, has_room, is_unlocked_for, locked_by, makes, number_of, once_decided, opened_notice, unlocked, posted, settlement_for, took_owed, without_moment}
+use Rattle.moka_hist.specs.Visits.{claimed_alone, cause_of, claimed, decided, gave_back, has_room, is_unlocked_for, locked_by, makes, number_of, once_decided, opened_notice, unlocked, posted, settlement_for, took_owed, without_moment, free_id, is_named, is_registered, next_free, registered_by, registered_with, retired}
 use Rattle.moka_hist.specs.Conditions.{held_number, numbers_of, HoldsWrite, IsPlaceOf, IsUnused}
 use Rattle.moka_hist.specs.SoundDesk.{SoundDesk}
 use Rattle.moka_hist.specs.Dropping.{left, owed_with}
@@ -27,6 +27,8 @@ use Rattle.moka_laws.proofs.Balance.{times_first, among_last, owed_append}
 use Rattle.moka_laws.proofs.Holding.{numbers_stand, place_number}
 use Rattle.moka_laws.proofs.Outcomes.{computes_of}
 use Rattle.moka_laws.proofs.Owning.{loads_self, loads_alike}
+use Rattle.moka_hist.specs.declared.predicates.Registered.{Registered}
+use Rattle.std.specs.List.{list_any}
 
 -- ---- writes: what calls hold, and how often each number stands with the desk
 
@@ -170,14 +172,82 @@ module _ {L : Type 0} (same : L → L → Bool) (owners : L → Option ℕ) (own
       by a b true false h e = absurd (false≢true (sym h))
       by a b false true h e = absurd (false≢true h)
 
+-- ---- predicates: how often an id stands among those that are registered
+
+abbrev ids_of : List Registered → List ℕ
+ids_of registered = map (λ r. r.id) registered
+
+abbrev OneId : List Registered → Type 0
+OneId registered = (id : ℕ) → times id (ids_of registered) ≤ 1
+
+filter_fewer : (keeps : Registered → Bool) (id : ℕ) (rs : List Registered) → times id (ids_of (filter keeps rs)) ≤ times id (ids_of rs)
+filter_fewer keeps id [] = omega arith
+filter_fewer keeps id (r ∷ rs) = by (keeps r) (filter_fewer keeps id rs)
+  where
+    by : (b : Bool) → times id (ids_of (filter keeps rs)) ≤ times id (ids_of rs) →
+        times id (ids_of (cond b (r ∷ filter keeps rs) (filter keeps rs))) ≤ times id (ids_of (r ∷ rs))
+    by true h = here (id == r.id)
+      where
+        here : (c : Bool) → cond c (times id (ids_of (filter keeps rs)) + 1) (times id (ids_of (filter keeps rs))) ≤
+            cond c (times id (ids_of rs) + 1) (times id (ids_of rs))
+        here true = omega (arith, h)
+        here false = h
+    by false h = here (id == r.id)
+      where
+        here : (c : Bool) → times id (ids_of (filter keeps rs)) ≤ cond c (times id (ids_of rs) + 1) (times id (ids_of rs))
+        here true = omega (arith, h)
+        here false = h
+
+-- an id under which nothing is registered stands nowhere
+unregistered : (rs : List Registered) (id : ℕ) → is_registered rs id ≡ false → times id (ids_of rs) ≡ 0
+unregistered [] id e = refl
+unregistered (r ∷ rs) id e = by (r.id == id) refl e (unregistered rs id)
+  where
+    other : (b : Bool) → (id == r.id) ≡ b → (r.id == id) ≡ false → b ≡ false
+    other false f g = refl
+    other true f g = absurd (false≢true (sym g ∙ eq-eqb r.id id (sym (eqb-true id r.id f))))
+
+    by : (b : Bool) → (r.id == id) ≡ b → (b || is_registered rs id) ≡ false → (is_registered rs id ≡ false → times id (ids_of rs) ≡ 0) →
+        times id (ids_of (r ∷ rs)) ≡ 0
+    by true f g rest = absurd (false≢true (sym g))
+    by false f g rest = rw (other (id == r.id) refl f) (rest g)
+
+new_id : (rs : List Registered) (r : Registered) → OneId rs → is_registered rs r.id ≡ false → OneId (rs ++ r ∷ [])
+new_id rs r one free id = by (id == r.id) refl (ends rs)
+  where
+    ends : (xs : List Registered) → times id (ids_of (xs ++ r ∷ [])) ≡ times id (ids_of xs) + once id r.id
+    ends [] = omega arith
+    ends (x ∷ xs) = more (id == x.id) (ends xs)
+      where
+        more : (b : Bool) → times id (ids_of (xs ++ r ∷ [])) ≡ times id (ids_of xs) + once id r.id →
+            cond b (times id (ids_of (xs ++ r ∷ [])) + 1) (times id (ids_of (xs ++ r ∷ []))) ≡
+            cond b (times id (ids_of xs) + 1) (times id (ids_of xs)) + once id r.id
+        more true h = omega (arith, h)
+        more false h = h
+
+    by : (b : Bool) → (id == r.id) ≡ b → times id (ids_of (rs ++ r ∷ [])) ≡ times id (ids_of rs) + cond b 1 0 → times id (ids_of (rs ++ r ∷ [])) ≤ 1
+    by true e h =
+        let none : times id (ids_of rs) ≡ 0 = unregistered rs id (ap (is_registered rs) (eqb-true id r.id e) ∙ free) in omega (arith, h, none)
+    by false e h = omega (arith, h, one id)
+
+-- what is drawn is registered nowhere
+free_none : (rs : List Registered) (ids : ℕ → ℕ) (from most number : ℕ) → free_id rs ids from most ≡ Some number → is_registered rs (ids number) ≡ false
+free_none rs ids from zero number e = absurd (none_some e)
+free_none rs ids from (suc rest) number e = by (is_registered rs (ids from)) refl e (free_none rs ids (suc from) rest number)
+  where
+    by : (b : Bool) → is_registered rs (ids from) ≡ b → cond b (free_id rs ids (suc from) rest) (Some from) ≡ Some number →
+        (free_id rs ids (suc from) rest ≡ Some number → is_registered rs (ids number) ≡ false) → is_registered rs (ids number) ≡ false
+    by true f g later = later g
+    by false f g later = ap (λ n. is_registered rs (ids n)) (sym (some_same g)) ∙ f
+
 module _ {K V E : Type 0} where
   -- how often a number stands with the desk
   abbrev stands : DeskPart K V E → ℕ → ℕ
   stands w x = times x (numbers_of w)
 
   module _ (eq : K → K → Bool) where
-    both : (w : DeskPart K V E) → Apart w.holding (stands w) → OneToOne (load_eq eq) w.owners w.owning → OneToOne eq w.locks w.locked → SoundDesk eq w
-    both w a o k = record {
+    both : (w : DeskPart K V E) → OneId w.registered → Apart w.holding (stands w) → OneToOne (load_eq eq) w.owners w.owning → OneToOne eq w.locks w.locked → SoundDesk eq w
+    both w one a o k = record {
       once = a.once;
       held_apart = a.held_apart;
       one_holder = a.one_holder;
@@ -187,6 +257,7 @@ module _ {K V E : Type 0} where
       one_locker = k.one_owner;
       locks = k.owns;
       locked = k.owned;
+      one_id = one;
     }
 
     apart_in : (w : DeskPart K V E) → SoundDesk eq w → Apart w.holding (stands w)
@@ -211,6 +282,7 @@ module _ {K V E : Type 0} where
       one_locker = λ a b e. refl;
       locks = λ l n e. absurd (none_some e);
       locked = λ l n e. absurd (none_some e);
+      one_id = λ id. omega arith;
     }
 
     took_sound : (w : DeskPart K V E) (call : ℕ) → w.holding call ≡ None → SoundDesk eq w → SoundDesk eq (took_owed w call)
@@ -223,7 +295,7 @@ module _ {K V E : Type 0} where
         by (x ∷ xs) e =
             let less : (y : ℕ) → stands w y ≡ stands (record w { owed = xs }) y + once y (number_of x.write) = λ y. omega
             (arith, numbers_stand y w, numbers_stand y (record w { owed = xs }), ap (among_owed y) e, times_first y (number_of x.write) (map (λ o. number_of o.write) xs)) in
-            rw e (both (record w { holding = put_at w.holding call (Some (holding.TookUp x.write)); owed = xs })
+            rw e (both (record w { holding = put_at w.holding call (Some (holding.TookUp x.write)); owed = xs }) h.one_id
             (takes w.holding (stands w) (stands (record w { owed = xs })) call (holding.TookUp x.write) none (apart_in w h) (λ y. omega (arith, less y))
             (omega (arith, less (number_of x.write), h.once (number_of x.write), once_same (number_of x.write)))
             (λ n g is same. omega (arith, ap (stands w) same, h.held_apart n g is, less (number_of x.write), once_same (number_of x.write))))
@@ -231,12 +303,12 @@ module _ {K V E : Type 0} where
 
     stamped_sound : (w : DeskPart K V E) (call : ℕ) → w.holding call ≡ None → IsUnused w call → SoundDesk eq w → SoundDesk eq (makes eq w (visit.StampMoment call))
     stamped_sound w call none unused h =
-        both (makes eq w (visit.StampMoment call))
+        both (makes eq w (visit.StampMoment call)) h.one_id
         (takes w.holding (stands w) (stands w) call (holding.Own (Some w.clock)) none (apart_in w h) (λ y. omega arith) unused.stands (λ n g is same. unused.held n g is same))
         (loads_in w h) (locks_in w h)
 
     pub decided_sound : DecidingKeepsSound K V E eq
-    decided_sound w call h = both (decided w call) (decides w.holding (stands w) (stands w) call (apart_in w h)) (loads_in w h) (locks_in w h)
+    decided_sound w call h = both (decided w call) h.one_id (decides w.holding (stands w) (stands w) call (apart_in w h)) (loads_in w h) (locks_in w h)
 
     -- the call hands in a write that it holds
     given : (w v : DeskPart K V E) (call : ℕ) (write : Write) (o : Option Holding) → w.holding call ≡ o → IsPlaceOf o call write → SoundDesk eq w →
@@ -251,7 +323,7 @@ module _ {K V E : Type 0} where
         by : (b : Bool) → has_room w ≡ b → SoundDesk eq (posted w call write)
         by true e =
             let v : DeskPart K V E = record w { log = w.log ++ write ∷ [] } in
-            rw e (both (record v { holding = put_at w.holding call None })
+            rw e (both (record v { holding = put_at w.holding call None }) h.one_id
             (given w v call write (w.holding call) refl holds h
             (λ y. omega (arith, numbers_stand y v, numbers_stand y w, among_last y write w.log))) (loads_in w h) (locks_in w h))
         by false e = rw e (decided_sound w call h)
@@ -267,7 +339,7 @@ module _ {K V E : Type 0} where
             let v : DeskPart K V E = record w { log = xs; applied = w.applied ++ x ∷ [] } in
             let same : (y : ℕ) → stands v y ≡ stands w y = λ y. omega
             (arith, numbers_stand y v, numbers_stand y w, ap (among y) e, times_first y (number_of x) (map number_of xs), among_last y x w.applied) in
-            rw e (both v (record {
+            rw e (both v h.one_id (record {
               once = λ y. omega (arith, same y, h.once y);
               held_apart = λ n g is. same (held_number n g) ∙ h.held_apart n g is;
               one_holder = h.one_holder;
@@ -275,8 +347,8 @@ module _ {K V E : Type 0} where
 
     claimed_sound : IsEquivalence eq → (w : DeskPart K V E) (call : ℕ) (load : Load K) → w.owning call ≡ None → (o : Option ℕ) → w.owners load ≡ o → SoundDesk eq w →
         SoundDesk eq (claimed eq w call load o)
-    claimed_sound laws w call load idle None e h = both (claimed eq w call load None) (apart_in w h) (claims (load_eq eq) w.owners w.owning call load (loads_self eq laws load) (loads_alike eq laws load) idle e (loads_in w h)) (locks_in w h)
-    claimed_sound laws w call load idle (Some owner) e h = both (claimed eq w call load (Some owner)) (apart_in w h) (loads_in w h) (locks_in w h)
+    claimed_sound laws w call load idle None e h = both (claimed eq w call load None) h.one_id (apart_in w h) (claims (load_eq eq) w.owners w.owning call load (loads_self eq laws load) (loads_alike eq laws load) idle e (loads_in w h)) (locks_in w h)
+    claimed_sound laws w call load idle (Some owner) e h = both (claimed eq w call load (Some owner)) h.one_id (apart_in w h) (loads_in w h) (locks_in w h)
 
     alone_sound : IsEquivalence eq → (w : DeskPart K V E) (call : ℕ) (load : Load K) →
         w.owning call ≡ None → (o : Option ℕ) → w.owners load ≡ o → SoundDesk eq w →
@@ -288,17 +360,17 @@ module _ {K V E : Type 0} where
     read_sound w call h = by (is_some (settlement_for w call)) refl
       where
         by : (b : Bool) → is_some (settlement_for w call) ≡ b → SoundDesk eq (makes eq w (visit.ReadSettled call))
-        by true e = rw e (both _ (apart_in w h) (loads_in w h) (locks_in w h))
+        by true e = rw e (both _ h.one_id (apart_in w h) (loads_in w h) (locks_in w h))
         by false e = rw e h
 
     pub left_sound : LeavingKeepsSound K V E eq
     left_sound w call None h may =
-        both (left w call None)
+        both (left w call None) h.one_id
         (clears w.holding (stands w) (stands (left w call None)) call (apart_in w h)
         (λ y. ap (λ l. times y (numbers_of (record w { owed = l }))) (append-nil w.owed)))
         (without_call (load_eq eq) w.owners w.owning call (loads_in w h)) (without_call eq w.locks w.locked call (locks_in w h))
     left_sound w call (Some held) h may =
-        both (left w call (Some held))
+        both (left w call (Some held)) h.one_id
         (given w (left w call (Some held)) call held.write (w.holding call) refl may h
         (λ y. omega (
           arith,
@@ -310,12 +382,12 @@ module _ {K V E : Type 0} where
         (without_call (load_eq eq) w.owners w.owning call (loads_in w h)) (without_call eq w.locks w.locked call (locks_in w h))
 
     pub heard_sound : (w : DeskPart K V E) (call : ℕ) (off : Bool) → SoundDesk eq w → SoundDesk eq (heard w call off)
-    heard_sound w call off h = both (heard w call off) (apart_in w h) (loads_in w h) (locks_in w h)
+    heard_sound w call off h = both (heard w call off) h.one_id (apart_in w h) (loads_in w h) (locks_in w h)
 
     pub told_call_sound : (w : DeskPart K V E) (call : ℕ) (given : Told V E) → SoundDesk eq w →
         SoundDesk eq (told_call w call given)
     told_call_sound w call given h =
-        both (told_call w call given) (apart_in w h) (loads_in w h) (locks_in w h)
+        both (told_call w call given) h.one_id (apart_in w h) (loads_in w h) (locks_in w h)
 
     pub told_sound : TellingKeepsSound K V E eq
     told_sound w call answer.Done h = heard_sound w call false h
@@ -323,16 +395,16 @@ module _ {K V E : Type 0} where
     told_sound w call one h = told_call_sound w call one h
 
     pub entered_sound : EnteringKeepsSound K V E eq
-    entered_sound w n h = both (record w { last = n }) (apart_in w h) (loads_in w h) (locks_in w h)
+    entered_sound w n h = both (record w { last = n }) h.one_id (apart_in w h) (loads_in w h) (locks_in w h)
 
     pub clock_sound : ClockKeepsSound K V E eq
-    clock_sound w moment h = both (record w { clock = moment }) (apart_in w h) (loads_in w h) (locks_in w h)
+    clock_sound w moment h = both (record w { clock = moment }) h.one_id (apart_in w h) (loads_in w h) (locks_in w h)
 
     locked_sound : IsEquivalence eq → (w : DeskPart K V E) (call : ℕ) (key : K) → w.locked call ≡ None → (b : Bool) → is_unlocked_for w call key ≡ b → SoundDesk eq w →
         SoundDesk eq (locked_by eq w call key b)
     locked_sound laws w call key idle false e h = h
     locked_sound laws w call key idle true e h =
-        both (locked_by eq w call key true) (apart_in w h) (loads_in w h)
+        both (locked_by eq w call key true) h.one_id (apart_in w h) (loads_in w h)
         (claims eq w.locks w.locked call key (laws.refl key) (λ a b same. keys_alike key a b same) idle (free (w.locks key) refl e) (locks_in w h))
       where
         keys_alike : (k a b : K) → eq a b ≡ true → eq k a ≡ eq k b
@@ -352,7 +424,7 @@ module _ {K V E : Type 0} where
     -- places that are given back are those of a write that stands nowhere
     gave_sound : (w : DeskPart K V E) (call : ℕ) → SoundDesk eq w → SoundDesk eq (gave_back w call)
     gave_sound w call h =
-        both (gave_back w call) (clears w.holding (stands w) (stands w) call (apart_in w h)
+        both (gave_back w call) h.one_id (clears w.holding (stands w) (stands w) call (apart_in w h)
         (λ x. refl)) (loads_in w h)
         (locks_in w h)
 
@@ -365,14 +437,25 @@ module _ {K V E : Type 0} where
         (unlocked w call wrote)
     unlocked_sound w call wrote h =
         let d = once_sound w call wrote h in
-        both (unlocked w call wrote) (apart_in (once_decided w call wrote) d)
+        both (unlocked w call wrote) h.one_id (apart_in (once_decided w call wrote) d)
         (loads_in (once_decided w call wrote) d)
         (without_call eq w.locks w.locked call (locks_in w h))
 
     opened_sound : (w : DeskPart K V E) (call : ℕ) (key : K) (value : V) (cause : Cause) → SoundDesk eq w → SoundDesk eq (opened_notice w call key value cause)
     opened_sound w call key value cause h =
         let d = decided_sound w call h in
-        both (opened_notice w call key value cause) (apart_in (decided w call) d) (loads_in (decided w call) d) (locks_in (decided w call) d)
+        both (opened_notice w call key value cause) h.one_id (apart_in (decided w call) d) (loads_in (decided w call) d) (locks_in (decided w call) d)
+
+    -- a predicate is registered under an id that none has
+    registered_sound : (w : DeskPart K V E) (test : ℕ) → SoundDesk eq w → SoundDesk eq (registered_with w test)
+    registered_sound w test h =
+        both (registered_with w test) (one w.rules.closures (next_free w) refl) (apart_in w h) (loads_in w h) (locks_in w h)
+      where
+        one : (b : Bool) (free : Option ℕ) → next_free w ≡ free → OneId (registered_by w test b free)
+        one false free e = h.one_id
+        one true None e = h.one_id
+        one true (Some number) e = λ id. new_id w.registered (record { id = w.ids number; test = test; moment = w.clock }) h.one_id
+            (free_none w.registered w.ids w.drawn 1000 number e) id
 
     pub visit_sound : IsEquivalence eq → VisitsKeepSound K V E eq
     visit_sound laws w (visit.Clock call) h may = gave_sound w call h
@@ -392,7 +475,11 @@ module _ {K V E : Type 0} where
         let load : Load K = computes_of key in
         alone_sound laws w call load (is_none_of (w.owning call) may.0) (w.owners load) refl h
     visit_sound laws w (visit.ReadSettled call) h may = read_sound w call h
-    visit_sound laws w (visit.Settle call with) h may = both (makes eq w (visit.Settle call with)) (apart_in w h) (without_call (load_eq eq) w.owners w.owning call (loads_in w h)) (locks_in w h)
+    visit_sound laws w (visit.Settle call with) h may = both (makes eq w (visit.Settle call with)) h.one_id (apart_in w h) (without_call (load_eq eq) w.owners w.owning call (loads_in w h)) (locks_in w h)
     visit_sound laws w (visit.PostWrite call write) h may = posted_sound w call write may h
     visit_sound laws w (visit.ApplyOne call) h may = applied_sound w call h
-    visit_sound laws w one h may = both (makes eq w one) (apart_in w h) (loads_in w h) (locks_in w h)
+    visit_sound laws w (visit.Register test) h may = registered_sound w test h
+    visit_sound laws w (visit.Retire ids) h may =
+        both (retired w ids) (λ id. omega (arith, filter_fewer (λ r. not (list_any (λ named. is_named named r) ids)) id w.registered, h.one_id id))
+        (apart_in w h) (loads_in w h) (locks_in w h)
+    visit_sound laws w one h may = both (makes eq w one) h.one_id (apart_in w h) (loads_in w h) (locks_in w h)

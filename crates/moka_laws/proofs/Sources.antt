@@ -3,7 +3,7 @@ use Rattle.std.proofs.Common.{◌≡◌, ℕ, ◌+◌, ◌==◌, Bool, true, fal
 use Rattle.std.proofs.lemmas.Bool.{eqb-true, eq-eqb}
 use Rattle.moka_hist.specs.Invalidating.{registering_answer}
 use Rattle.moka_hist.specs.State.{State, World, Call, DeskPart}
-use Rattle.moka_hist.specs.Plan.{Item, Aim, Removal, end_load}
+use Rattle.moka_hist.specs.Plan.{Item, Aim, Removal, end_load, lists_from}
 use Rattle.moka_hist.specs.Writing.{nothing_answer, removed_answer, said}
 use Rattle.moka_hist.specs.Plan as plan
 use Rattle.moka_hist.specs.Next.{Next, goes, waits}
@@ -41,7 +41,8 @@ use Rattle.moka_laws.proofs.StepCases.{OnStep, step_cases}
 use Rattle.moka_laws.proofs.Outcomes.{Outcomes, outcomes, computes_of, passes_by}
 use Rattle.moka_hist.specs.declared.loads.Compute.{Compute}
 use Rattle.moka_hist.specs.Computing.{after_told_op, after_read_key}
-use Rattle.moka_laws.proofs.Walks.{Ends, Finds, IsWalk, Lists, Scans, walk_is_walk}
+use Rattle.moka_laws.proofs.Walks.{Ends, Finds, IsWalk, Lists, Scans, walk_is_walk, Chooses, Retires, Strikes, retiring_walk}
+use Rattle.moka_hist.specs.Maintenance.{carrying}
 
 same_answer : {K V E : Type 0} (a b : Answer K V E) → ◌≡◌ {A = Turn K V E} (turn.Answer a)
     (turn.Answer b) →
@@ -114,6 +115,9 @@ module _ {K V E : Type 0} where
 
   walk_says : (owned : Option (Load K)) (p : List (Item K V E)) → IsWalk p → PlanSays owned p
   walk_says owned p Ends = tt
+  walk_says owned p Retires = tt
+  walk_says owned p (Chooses parts) = tt
+  walk_says owned p (Strikes there stored rest walk) = walk_says owned rest walk
   walk_says owned p (Lists part rest walk) = walk_says owned rest walk
   walk_says owned p (Finds key rest walk) = walk_says owned rest walk
   walk_says owned p (Scans there stored rest walk) = walk_says owned rest walk
@@ -163,9 +167,12 @@ module _ {K V E : Type 0} where
       source = λ a e. absurd (going a e);
     }
 
+    goes_as : (other : Call K V E) (rest : List (Item K V E)) → PlanSays (d.owning n) rest → Still (goes other rest)
+    goes_as other (plan.Reply a ∷ []) q = plainly a _ refl refl q
+    goes_as other _ q = on _ (λ b e. cc) q
+
     goes_says : (rest : List (Item K V E)) → PlanSays (d.owning n) rest → Still (goes c rest)
-    goes_says (plan.Reply a ∷ []) q = plainly a _ refl refl q
-    goes_says _ q = on _ (λ b e. cc) q
+    goes_says rest q = goes_as c rest q
 
     keeps_says : Still (keeps c)
     keeps_says = kept_next Still c (λ off. plainly answer.Kept _ refl refl tt)
@@ -390,12 +397,19 @@ module _ {K V E : Type 0} where
     on_item (plan.Find key) rest e l q f t = (
       (λ more. on w.desk n c _ (λ b h. cc) p),
       (λ none. passes rest q),
-      λ k stored some. on w.desk n c _ (λ b h. cc) q,
+      (λ k stored some none. on w.desk n c _ (λ b h. cc) q),
+      λ k stored ids some is. on w.desk n c _ (λ b h. cc) q,
     )
     on_item (plan.Scan there stored) rest e l q f t =
         ((λ seen. on w.desk n c _ (λ b h. cc) q), λ unseen. passes rest q)
     on_item (plan.Register test) rest e l q f t =
         plainly w.desk n c (registering_answer (registering w.desk)) _ refl refl (registering_plain K V E (registering w.desk))
+    on_item (plan.Candidates parts) rest e l q f t = (
+      (λ none. plainly w.desk n c answer.Done _ refl refl tt),
+      λ id more some. goes_as w.desk n c (carrying c (id ∷ more)) (lists_from 0 parts (plan.Retire ∷ [])) (walk_says _ _ (retiring_walk parts)),
+    )
+    on_item (plan.Strike there stored) rest e l q f t = goes_as w.desk n c (carrying c _) rest q
+    on_item plan.Retire rest e l q f t = plainly w.desk n c answer.Done _ refl refl tt
     on_item (plan.Reply a) rest e l q f t = plainly w.desk n c a _ refl refl q
     on_item item rest e l q f t = passes_by eq After w n c item rest tt
         (λ d a. subst (λ o. Leaves w.desk n c o (goes c rest)) (sym a.owning) (passes rest q)) parks

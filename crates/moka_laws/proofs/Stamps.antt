@@ -54,21 +54,21 @@ module _ {K V E : Type 0} where
   Fits n t (On_table o) = Suits n t o
   Fits n t (On_desk made) = Unit {0}
 
-  item_fits : (n : ℕ) (t : TablePart K V) (item : Item K V E) (rest : List (Item K V E)) →
-      times n t.committed + weigh may_write (item ∷ rest) ≤ 1 → Fits n t (access_for n item)
-  item_fits n t (plan.Write key value moment) rest h = (refl, omega (arith, h))
-  item_fits n t _ rest h = tt
+  item_fits : (n : ℕ) (t : TablePart K V) (ids : Option (List (ℕ × ℕ))) (item : Item K V E) (rest : List (Item K V E)) →
+      times n t.committed + weigh may_write (item ∷ rest) ≤ 1 → Fits n t (access_for n ids item)
+  item_fits n t ids (plan.Write key value moment) rest h = (refl, omega (arith, h))
+  item_fits n t ids _ rest h = tt
 
   plan_fits : (n : ℕ) (t : TablePart K V) (rules : Rules) (mode : Mode) (p : List (Item K V E))
-      (aborts : ℕ) →
+      (aborts : ℕ) (ids : Option (List (ℕ × ℕ))) →
       times n t.committed + weigh may_write p ≤ 1 →
-      Fits n t (access_of n (record { rules = rules; mode = mode; plan = p; aborts = aborts }))
-  plan_fits n t rules mode [] aborts h = tt
-  plan_fits n t rules mode (item ∷ rest) aborts h = item_fits n t item rest h
+      Fits n t (access_of n (record { rules = rules; mode = mode; plan = p; aborts = aborts; carried = ids }))
+  plan_fits n t rules mode [] aborts ids h = tt
+  plan_fits n t rules mode (item ∷ rest) aborts ids h = item_fits n t ids item rest h
 
   pub step_fits : (s : State K V E) (n : ℕ) (c : Call K V E) → IsBalanced s → s.calls n ≡ Some c →
       Fits n s.world.table (access_of n c)
-  step_fits s n c b live = plan_fits n s.world.table c.rules c.mode c.plan c.aborts
+  step_fits s n c b live = plan_fits n s.world.table c.rules c.mode c.plan c.aborts c.carried
       (b.unspent n c live)
 
 module _ {K V : Type 0} (eq : K → K → Bool) where

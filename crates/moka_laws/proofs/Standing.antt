@@ -4,7 +4,7 @@ use Rattle.std.proofs.Common.{◌≡◌, ◌⊎◌, inl, inr, ℕ, ◌+◌, ◌=
 use Rattle.std.proofs.lemmas.Bool.{eqb-true}
 use Rattle.std.specs.Cmp.{IsEquivalence}
 use Rattle.std.specs.Prelude.{IsSomeAnd}
-use Rattle.moka_hist.specs.Plan.{or_insert_plan, seek}
+use Rattle.moka_hist.specs.Plan.{or_insert_plan, seek, lists_from}
 use Rattle.moka_hist.specs.Finite.{put_key}
 use Rattle.moka_hist.specs.State.{State, World, Call, TablePart}
 use Rattle.moka_hist.specs.Plan.{Item, Aim, get_plan, insert_plan, is_disabled, load_plan, plan_of, under_lock}
@@ -49,7 +49,8 @@ use Rattle.moka_laws.proofs.StepCases.{OnStep, step_cases}
 use Rattle.moka_laws.proofs.Outcomes.{Outcomes, outcomes, passes_on}
 use Rattle.moka_hist.specs.declared.loads.Compute.{Compute}
 use Rattle.moka_hist.specs.Computing.{after_told_op, after_read_key}
-use Rattle.moka_laws.proofs.Walks.{weigh_finds, weigh_walk, walk_is_walk}
+use Rattle.moka_laws.proofs.Walks.{weigh_finds, weigh_walk, walk_is_walk, weigh_retiring}
+use Rattle.moka_hist.specs.Maintenance.{carrying}
 
 -- what is stored by key
 abbrev Map : Type 0 → Type 0 → Type 0
@@ -184,9 +185,13 @@ module _ {K V E : Type 0} where
     abbrev After : World K V E → Next K V E → Type 0
     After new next = StandsIf new.table.stored next.left
 
+    goes_as : (d : Call K V E) (f : Map K V) (rest : List (Item K V E)) → weigh chosen rest ≡ 0 → StandsIf f
+        (goes d rest).left
+    goes_as d f rest h = calm_if f (goes d rest).left (weigh_goes chosen d rest (λ a. refl) ∙ h)
+
     goes_on : (f : Map K V) (rest : List (Item K V E)) → weigh chosen rest ≡ 0 → StandsIf f
         (goes c rest).left
-    goes_on f rest h = calm_if f (goes c rest).left (weigh_goes chosen c rest (λ a. refl) ∙ h)
+    goes_on f rest h = goes_as c f rest h
 
     finds_on : (aim : Aim K V) (key there : K) (seen : Stored V) (rest : List (Item K V E)) → c.plan ≡
         plan.Get aim key ∷ rest →
@@ -294,11 +299,16 @@ module _ {K V E : Type 0} where
     on_calm (plan.Find key) rest e p q i = (
       λ more. inl p,
       λ none. goes_on _ rest (omega (arith, q)),
-      λ there seen some. inl (omega (arith, q)),
+      λ there seen some none. inl (omega (arith, q)),
+      λ there seen ids some is. inl (omega (arith, q)),
     )
     on_calm (plan.Scan there found) rest e p q i =
         (λ seen. inl (omega (arith, q)), λ unseen. goes_on _ rest (omega (arith, q)))
     on_calm (plan.Register test) rest e p q i = tt
+    on_calm (plan.Candidates parts) rest e p q i =
+        (λ none. tt, λ id more some. goes_as (carrying c (id ∷ more)) _ (lists_from 0 parts (plan.Retire ∷ [])) (weigh_retiring chosen (λ part. refl) refl parts))
+    on_calm (plan.Strike there found) rest e p q i = goes_as (carrying c _) _ rest (omega (arith, q))
+    on_calm plan.Retire rest e p q i = tt
     on_calm (plan.Reply a) rest e p q i = tt
     on_calm item rest e p q i =
         passes_on eq After w n c item rest tt (λ d. goes_on _ rest (omega (arith, q))) (inl p)
@@ -352,19 +362,19 @@ module _ {K V E : Type 0} where
     access_leaves n w new (On_desk made) (got.Table turn) gets q never = absurd gets
 
     -- a call that changes what stands under a key is about to, under an equal one
-    item_changes : (n : ℕ) (item : Item K V E) (rest : List (Item K V E)) (q : K) → Changes
-        (access_for n item) q →
+    item_changes : (n : ℕ) (ids : Option (List (ℕ × ℕ))) (item : Item K V E) (rest : List (Item K V E)) (q : K) → Changes
+        (access_for n ids item) q →
         (key : K) × (locked_key (item ∷ rest) ≡ Some key) × (eq key q ≡ true)
-    item_changes n (plan.Write key value moment) rest q h = (key, refl, h)
-    item_changes n (plan.Out removal key) rest q h = (key, refl, h)
-    item_changes n _ rest q h = absurd h
+    item_changes n ids (plan.Write key value moment) rest q h = (key, refl, h)
+    item_changes n ids (plan.Out removal key) rest q h = (key, refl, h)
+    item_changes n ids _ rest q h = absurd h
 
     plan_changes : (n : ℕ) (rules : Rules) (mode : Mode) (p : List (Item K V E)) (aborts : ℕ)
-        (q : K) →
-        Changes (access_of n (record { rules = rules; mode = mode; plan = p; aborts = aborts })) q →
+        (ids : Option (List (ℕ × ℕ))) (q : K) →
+        Changes (access_of n (record { rules = rules; mode = mode; plan = p; aborts = aborts; carried = ids })) q →
         (key : K) × (locked_key p ≡ Some key) × (eq key q ≡ true)
-    plan_changes n rules mode [] aborts q h = absurd h
-    plan_changes n rules mode (item ∷ rest) aborts q h = item_changes n item rest q h
+    plan_changes n rules mode [] aborts ids q h = absurd h
+    plan_changes n rules mode (item ∷ rest) aborts ids q h = item_changes n ids item rest q h
 
   -- what stands so still does where nothing changes under its key
   standing_still : (f g : Map K V) (p : List (Item K V E)) →
@@ -391,7 +401,7 @@ module _ {K V E : Type 0} where
   form_calm rules p (Takes_out (plan.To_evict_chosen stamp cause) key off started) = absurd started
   form_calm rules p (Locks_and_takes_out (plan.To_evict_chosen stamp cause) key on started) =
       absurd started
-  form_calm rules p (Walks_over parts able) = weigh_walk chosen (record { list = λ part. refl; find = λ key. refl; scan = λ there stored. refl; end = refl }) p (walk_is_walk 0 parts)
+  form_calm rules p (Walks_over parts able) = weigh_walk chosen (record { list = λ part. refl; find = λ key. refl; scan = λ there stored. refl; end = refl; choose = λ parts. refl; strike = λ there stored. refl; retire = refl }) p (walk_is_walk 0 parts)
   form_calm rules p _ = refl
 
 -- ---- of a state
@@ -438,7 +448,7 @@ module _ {K V E : Type 0} (eq : K → K → Bool) (laws : IsEquivalence eq) wher
         never : (k : K) → locked_key c.plan ≡ Some k → Changes eq (access_of m step.call) k → ⊥
         never k e h =
             let d : Call K V E = step.call in
-            let g = plan_changes eq m d.rules d.mode d.plan d.aborts k h in
+            let g = plan_changes eq m d.rules d.mode d.plan d.aborts d.carried k h in
             differ_not m n apart
             (one_lock eq s.world.desk i.sound.sound m n g.0 k
             (key_locked s l m d g.0 on step.live g.1) (key_locked s l n c k on live e) g.2)

@@ -1,5 +1,5 @@
 -- One step, taken apart by the first item of the call's plan.
-use Rattle.std.proofs.Common.{ℕ, ◌<◌, Bool, List, [], ◌∷◌, sym, subst}
+use Rattle.std.proofs.Common.{ℕ, ◌<◌, Bool, List, [], ◌∷◌, Option, sym, subst}
 use Rattle.moka_hist.specs.State.{State, Call, TablePart, World}
 use Rattle.moka_hist.specs.Plan.{Item}
 use Rattle.moka_hist.specs.Visits.{finds, gave_back, makes}
@@ -28,7 +28,7 @@ module _ {K V E : Type 0} (eq : K → K → Bool) where
   -- M holds of all that a step may make of the world and of the call, with this plan
   abbrev pub OnStep : (World K V E → Next K V E → Type 0) → World K V E → ℕ → Call K V E → List (Item K V E) → Type 0
   OnStep M w n c [] = M (record w { desk = gave_back w.desk n }) (waits c)
-  OnStep M w n c (item ∷ rest) = OnAccess M w n c item rest (access_for n item)
+  OnStep M w n c (item ∷ rest) = OnAccess M w n c item rest (access_for n c.carried item)
 
   -- how a call goes on whose plan begins with the item
   abbrev after : ℕ → Call K V E → Item K V E → List (Item K V E) → Got K V E → Next K V E
@@ -46,15 +46,15 @@ module _ {K V E : Type 0} (eq : K → K → Bool) where
   by_access M w n c item rest (On_desk made) (got.Table turn) new h m = absurd h
 
   pub by_plan : (M : World K V E → Next K V E → Type 0) (w : World K V E) (n : ℕ) (rules : Rules) (mode : Mode) (plan : List (Item K V E)) (aborts : ℕ)
-      (given : Got K V E) (new : World K V E) →
-      let c : Call K V E = record { rules = rules; mode = mode; plan = plan; aborts = aborts } in
+      (carried : Option (List (ℕ × ℕ))) (given : Got K V E) (new : World K V E) →
+      let c : Call K V E = record { rules = rules; mode = mode; plan = plan; aborts = aborts; carried = carried } in
       Gets eq n w (access_of n c) given new → OnStep M w n c plan → M new (next_of n c given)
-  by_plan M w n rules mode [] aborts (got.Desk f) new h m = rw h.1 m
-  by_plan M w n rules mode [] aborts (got.Table turn) new h m = absurd h
-  by_plan M w n rules mode (item ∷ rest) aborts (got.Table turn) new h m = by_access M w n
-      (record { rules = rules; mode = mode; plan = item ∷ rest; aborts = aborts }) item rest (access_for n item) (got.Table turn) new h m
-  by_plan M w n rules mode (item ∷ rest) aborts (got.Desk f) new h m = by_access M w n
-      (record { rules = rules; mode = mode; plan = item ∷ rest; aborts = aborts }) item rest (access_for n item) (got.Desk f) new h m
+  by_plan M w n rules mode [] aborts carried (got.Desk f) new h m = rw h.1 m
+  by_plan M w n rules mode [] aborts carried (got.Table turn) new h m = absurd h
+  by_plan M w n rules mode (item ∷ rest) aborts carried (got.Table turn) new h m = by_access M w n
+      (record { rules = rules; mode = mode; plan = item ∷ rest; aborts = aborts; carried = carried }) item rest (access_for n carried item) (got.Table turn) new h m
+  by_plan M w n rules mode (item ∷ rest) aborts carried (got.Desk f) new h m = by_access M w n
+      (record { rules = rules; mode = mode; plan = item ∷ rest; aborts = aborts; carried = carried }) item rest (access_for n carried item) (got.Desk f) new h m
 
   more_access : (M N : World K V E → Next K V E → Type 0) → ((w : World K V E) (next : Next K V E) → M w next → N w next) →
       (w : World K V E) (n : ℕ) (c : Call K V E) (item : Item K V E) (rest : List (Item K V E)) (a : Access K V E) → OnAccess M w n c item rest a →
@@ -66,7 +66,19 @@ module _ {K V E : Type 0} (eq : K → K → Bool) where
       ((w : World K V E) (next : Next K V E) → M w next → N w next) →
       (w : World K V E) (n : ℕ) (c : Call K V E) (plan : List (Item K V E)) → OnStep M w n c plan → OnStep N w n c plan
   more_step M N f w n c [] m = f _ _ m
-  more_step M N f w n c (item ∷ rest) m = more_access M N f w n c item rest (access_for n item) m
+  more_step M N f w n c (item ∷ rest) m = more_access M N f w n c item rest (access_for n c.carried item) m
+
+  both_access : (M N O : World K V E → Next K V E → Type 0) → ((w : World K V E) (next : Next K V E) → M w next → N w next → O w next) →
+      (w : World K V E) (n : ℕ) (c : Call K V E) (item : Item K V E) (rest : List (Item K V E)) (a : Access K V E) → OnAccess M w n c item rest a →
+      OnAccess N w n c item rest a → OnAccess O w n c item rest a
+  both_access M N O f w n c item rest (On_table op) m k = (λ h. f _ _ (m.0 h) (k.0 h), λ answer t o. f _ _ (m.1 answer t o) (k.1 answer t o))
+  both_access M N O f w n c item rest (On_desk made) m k = f _ _ m k
+
+  -- so of what two hold together
+  pub both_step : (M N O : World K V E → Next K V E → Type 0) → ((w : World K V E) (next : Next K V E) → M w next → N w next → O w next) →
+      (w : World K V E) (n : ℕ) (c : Call K V E) (plan : List (Item K V E)) → OnStep M w n c plan → OnStep N w n c plan → OnStep O w n c plan
+  both_step M N O f w n c [] m k = f _ _ m k
+  both_step M N O f w n c (item ∷ rest) m k = both_access M N O f w n c item rest (access_for n c.carried item) m k
 
   -- what follows from all that a step may make holds of what it made
   pub step_cases : (M : World K V E → Next K V E → Type 0) (P : State K V E → Turn K V E → Type 0) (s t : State K V E) (n : ℕ) (turn : Turn K V E)
@@ -77,5 +89,5 @@ module _ {K V E : Type 0} (eq : K → K → Bool) where
       let on_plan : OnStep (λ w next. P (state_after s n w next) next.turn) s.world n c c.plan = more_step M
       (λ w next. P (state_after s n w next) next.turn) follows s.world n c c.plan cases in
       let p : P (state_after s n step.world (next_of n c step.given)) (next_of n c step.given).turn =
-      by_plan (λ w next. P (state_after s n w next) next.turn) s.world n c.rules c.mode c.plan c.aborts step.given step.world step.gets on_plan in
+      by_plan (λ w next. P (state_after s n w next) next.turn) s.world n c.rules c.mode c.plan c.aborts c.carried step.given step.world step.gets on_plan in
       subst (λ v. P v turn) (sym step.after) (subst (λ v. P (state_after s n step.world (next_of n c step.given)) v) (sym step.turns) p)

@@ -1,9 +1,9 @@
 -- A call whose answer says that it has stored a value has committed its write.
-use Rattle.std.proofs.Common.{◌≡◌, ℕ, ◌+◌, ◌≤◌, ◌==◌, Bool, true, false, cond, List, [], ◌∷◌, ◌++◌, Some, None, refl, sym, ap, ◌∙◌, subst, arith, Option, map, Result, Ok, Err}
+use Rattle.std.proofs.Common.{◌≡◌, ℕ, ◌+◌, ◌≤◌, ◌==◌, Bool, true, false, cond, List, [], ◌∷◌, ◌++◌, Some, None, refl, sym, ap, ◌∙◌, subst, arith, Option, map, Result, Ok, Err, zero, suc}
 use Rattle.std.proofs.lemmas.Bool.{eqb-true, false≢true}
 use Rattle.moka_hist.specs.Visits.{registering}
 use Rattle.moka_hist.specs.Invalidating.{registering_answer}
-use Rattle.moka_hist.specs.Plan.{or_insert_plan, seek}
+use Rattle.moka_hist.specs.Plan.{or_insert_plan, seek, lists_from}
 use Rattle.moka_hist.specs.Finite.{times}
 use Rattle.moka_hist.specs.State.{State, World, Call}
 use Rattle.moka_hist.specs.Plan.{Item, Aim, Removal, insert_plan, is_disabled, load_plan, plan_of}
@@ -49,7 +49,8 @@ use Rattle.moka_laws.proofs.StepCases.{OnStep, step_cases}
 use Rattle.moka_laws.proofs.Outcomes.{Outcomes, outcomes, passes_on}
 use Rattle.moka_hist.specs.declared.loads.Compute.{Compute}
 use Rattle.moka_hist.specs.Computing.{after_told_op, after_read_key}
-use Rattle.moka_laws.proofs.Walks.{weigh_finds}
+use Rattle.moka_laws.proofs.Walks.{weigh_finds, weigh_retiring}
+use Rattle.moka_hist.specs.Maintenance.{carrying}
 
 -- 1 where the answer of a call that was started for this says that it has stored a value
 abbrev stored : {K V E : Type 0} → Start K V → Answer K V E → ℕ
@@ -123,7 +124,14 @@ module _ {K V E : Type 0} (begun : Start K V) where
   -- the item answers that a value was stored
   abbrev says : Item K V E → ℕ
   says (plan.Reply a) = stored begun a
+  says (plan.Candidates parts) = stored {K = K} {V = V} {E = E} begun reply.Done
+  says plan.Retire = stored {K = K} {V = V} {E = E} begun reply.Done
   says _ = 0
+
+  -- the lists of a walk that carries predicates say what its end does
+  lists_say : (rest : List (Item K V E)) (part left : ℕ) → weigh says (lists_from part left rest) ≡ weigh says rest
+  lists_say rest part zero = refl
+  lists_say rest part (suc left) = let h = lists_say rest (part + 1) left in omega (arith, h)
 
   -- the plan, once so often was committed: it says that a value was stored only where it has made a
   -- write or is to make one, and it takes nothing out
@@ -468,7 +476,8 @@ module _ {K V E : Type 0} (begun : Start K V) where
     on_item (plan.Find key) rest l p q = (
       (λ more. record { left = p.says; plain = p.plain; now = λ b e. cc }),
       (λ none. goes_says _ c rest (omega (arith, q.says)) (omega (arith, q.plain))),
-      λ k stored some. record { left = omega (arith, q.says); plain = omega (arith, q.plain); now = λ b e. cc },
+      (λ k stored some none. record { left = omega (arith, q.says); plain = omega (arith, q.plain); now = λ b e. cc }),
+      λ k stored ids some is. record { left = omega (arith, q.says); plain = omega (arith, q.plain); now = λ b e. cc },
     )
     on_item (plan.Scan there stored) rest l p q = (
       (λ seen. record { left = omega (arith, q.says); plain = omega (arith, q.plain); now = λ b e. cc }),
@@ -480,6 +489,21 @@ module _ {K V E : Type 0} (begun : Start K V) where
       now = λ b e. omega
           (arith, registering_stores E begun (registering w.desk), ap (stored begun) (same_answer _ b e));
     }
+    on_item (plan.Candidates parts) rest l p q =
+        let alone = subst (λ v. weigh says (plan.Candidates parts ∷ v) ≤ weigh makes
+        (plan.Candidates parts ∷ v) + times n w.table.committed) l q.says in (
+          (λ none. record {
+            left = omega arith;
+            plain = refl;
+            now = λ b e. omega (arith, alone, ap (stored begun) (same_answer reply.Done b e));
+          }),
+          λ id more some. goes_says _ (carrying c (id ∷ more)) (lists_from 0 parts (plan.Retire ∷ []))
+              (omega (arith, alone, lists_say (plan.Retire ∷ []) 0 parts)) (weigh_retiring takes (λ part. refl) refl parts),
+        )
+    on_item (plan.Strike there stored) rest l p q = goes_says _ (carrying c _) rest (omega (arith, q.says)) (omega (arith, q.plain))
+    on_item plan.Retire rest l p q =
+        let alone = subst (λ v. weigh says (plan.Retire ∷ v) ≤ weigh makes (plan.Retire ∷ v) + times n w.table.committed) l q.says in
+        record { left = omega arith; plain = refl; now = λ b e. omega (arith, alone, ap (stored begun) (same_answer reply.Done b e)) }
     on_item (plan.Reply a) rest l p q =
         let alone = subst (λ v. weigh says (plan.Reply a ∷ v) ≤ weigh makes
         (plan.Reply a ∷ v) + times n w.table.committed) l q.says in

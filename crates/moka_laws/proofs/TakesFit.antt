@@ -5,7 +5,7 @@ use Rattle.std.specs.Option.{option_map_or}
 use Rattle.moka_hist.specs.Dropping.{dropped}
 use Rattle.moka_hist.specs.Finite.{put_at}
 use Rattle.moka_hist.specs.State.{State, World, Call}
-use Rattle.moka_hist.specs.Plan.{Item, Aim, Removal, plan_of}
+use Rattle.moka_hist.specs.Plan.{Item, Aim, Removal, plan_of, lists_from}
 use Rattle.moka_hist.specs.Plan as plan
 use Rattle.moka_hist.specs.Next.{Next, goes}
 use Rattle.moka_hist.specs.Looking.{hits, misses, keeps as stays, finds_pair}
@@ -39,7 +39,8 @@ use Rattle.moka_laws.proofs.Kept.{IsInvariant, in_reached}
 use Rattle.moka_laws.proofs.Owning.{plan_left}
 use Rattle.moka_laws.proofs.StepCases.{OnStep, step_cases}
 use Rattle.moka_laws.proofs.Outcomes.{Outcomes, outcomes, passes_by}
-use Rattle.moka_laws.proofs.Walks.{IsWalk, Ends, Lists, Finds, Scans, walk_is_walk}
+use Rattle.moka_laws.proofs.Walks.{IsWalk, Ends, Lists, Finds, Scans, walk_is_walk, Chooses, Retires, Strikes, retiring_walk}
+use Rattle.moka_hist.specs.Maintenance.{carrying}
 
 -- an open ask takes this, and what was told to a closed one is what that takes
 abbrev pub AskFits : Takes → Option Takes → Type 0
@@ -209,6 +210,9 @@ module _ {K V E : Type 0} where
 
   walk_take : (asked : Option Takes) (given : Option (Told V E)) (p : List (Item K V E)) → IsWalk p → AllTake asked given p
   walk_take asked given p Ends = (tt, tt)
+  walk_take asked given p Retires = (tt, tt)
+  walk_take asked given p (Chooses parts) = (tt, tt)
+  walk_take asked given p (Strikes there stored rest walk) = (tt, walk_take asked given rest walk)
   walk_take asked given p (Lists part rest walk) = (tt, walk_take asked given rest walk)
   walk_take asked given p (Finds key rest walk) = (tt, walk_take asked given rest walk)
   walk_take asked given p (Scans there stored rest walk) = (tt, walk_take asked given rest walk)
@@ -356,11 +360,19 @@ module _ {K V E : Type 0} where
     on_item (plan.Find key) rest q = (
       (λ more. as_was refl refl p),
       (λ none. goes_on rest refl refl q.1),
-      λ k stored some. as_was refl refl (tt, q.1),
+      (λ k stored some none. as_was refl refl (tt, q.1)),
+      λ k stored ids some is. as_was refl refl (tt, q.1),
     )
     on_item (plan.Scan there stored) rest q =
         ((λ seen. as_was refl refl q.1), λ unseen. goes_on rest refl refl q.1)
     on_item (plan.Register test) rest q = as_was refl refl tt
+    on_item (plan.Candidates parts) rest q = (
+      (λ none. as_was refl refl tt),
+      λ id more some. as_was refl refl
+          (goes_take _ _ (carrying c (id ∷ more)) (lists_from 0 parts (plan.Retire ∷ [])) (walk_take _ _ _ (retiring_walk parts))),
+    )
+    on_item (plan.Strike there stored) rest q = as_was refl refl (goes_take _ _ (carrying c _) rest q.1)
+    on_item plan.Retire rest q = as_was refl refl tt
     on_item (plan.Reply a) rest q = as_was refl refl tt
     on_item (plan.Settle with) rest q = goes_on rest refl refl q.1
     on_item item rest q = passes_by eq (Leaves w n) w n c item rest tt

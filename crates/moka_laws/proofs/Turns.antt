@@ -1,10 +1,10 @@
 -- The turn is with the one call that applies the log.
-use Rattle.std.proofs.Common.{◌≡◌, ◌≢◌, ◌↔◌, ℕ, ◌+◌, ◌==◌, Bool, true, false, List, [], ◌∷◌, Option, Some, None, refl, sym, ap, ◌∙◌, subst, arith, map, ◌++◌}
+use Rattle.std.proofs.Common.{◌≡◌, ◌≢◌, ◌↔◌, ℕ, ◌+◌, ◌==◌, Bool, true, false, List, [], ◌∷◌, Option, Some, None, refl, sym, ap, ◌∙◌, subst, map, ◌++◌}
 use Rattle.std.proofs.lemmas.Bool.{eqb-true, false≢true}
 use Rattle.std.specs.Option.{option_map_or}
 use Rattle.moka_hist.specs.Finite.{put_at}
 use Rattle.moka_hist.specs.State.{State, World, Call, DeskPart}
-use Rattle.moka_hist.specs.Plan.{Item, Aim, plan_of}
+use Rattle.moka_hist.specs.Plan.{Item, Aim, plan_of, lists_from}
 use Rattle.moka_hist.specs.Plan as plan
 use Rattle.moka_hist.specs.Visits.{is_free_for}
 use Rattle.moka_hist.specs.Next.{Next, goes}
@@ -28,7 +28,6 @@ use Rattle.moka_hist.specs.Writing.{cause_handed, nothing_answer, removed_answer
 use Rattle.moka_hist.specs.declared.writes.Write.TheVariants.{Remove}
 use Rattle.moka_laws.proofs.Rules.{abort_next, said_next, put_plans, loaded_plans, kept_next, chosen_by, IsFresh, Disabled, fresh_plan, read_key_next, told_op_next, Walks_over}
 use Rattle.moka_laws.proofs.Counting.{none_some, some_same, put_here, put_there, differ_not, other_number}
-use Rattle.moka_laws.proofs.Weights.{weigh}
 use Rattle.moka_laws.proofs.Balance.{IsBalanced}
 use Rattle.moka_laws.proofs.Balanced.{balanced_kept, next_free}
 use Rattle.moka_laws.proofs.Owning.{plan_left}
@@ -37,28 +36,32 @@ use Rattle.moka_laws.proofs.StepCases.{OnStep, step_cases}
 use Rattle.moka_laws.proofs.Outcomes.{Outcomes, outcomes}
 use Rattle.moka_hist.specs.declared.loads.Compute.{Compute}
 use Rattle.moka_hist.specs.Computing.{after_told_op, after_read_key}
-use Rattle.moka_laws.proofs.Walks.{weigh_walk, weigh_finds, walk_is_walk}
+use Rattle.moka_laws.proofs.Walks.{Chooses, Ends, Finds, IsWalk, Lists, Retires, Scans, Strikes, retiring_walk, walk_is_walk}
+use Rattle.moka_hist.specs.Maintenance.{carrying}
 
 module _ {K V E : Type 0} where
-  -- the item is one of a turn
-  abbrev of_turn : Item K V E → ℕ
-  of_turn plan.Turn = 1
-  of_turn plan.Apply = 1
-  of_turn plan.End = 1
-  of_turn _ = 0
+  -- each turn of the plan is whole: it is taken, the log is applied, and it is ended. So it is of a
+  -- plan that begins within a turn, once this is ended
+  abbrev HasTurns : Bool → List (Item K V E) → Type 0
+  HasTurns false [] = Unit {0}
+  HasTurns false (plan.Turn ∷ rest) = HasTurns true rest
+  HasTurns false (plan.Apply ∷ rest) = ⊥
+  HasTurns false (plan.End ∷ rest) = ⊥
+  HasTurns false (_ ∷ rest) = HasTurns false rest
+  HasTurns true [] = ⊥
+  HasTurns true (plan.Apply ∷ rest) = HasTurns true rest
+  HasTurns true (plan.End ∷ rest) = HasTurns false rest
+  HasTurns true (_ ∷ rest) = ⊥
 
-  -- a plan that takes a turn takes it now: then it applies, and ends it, and takes no other
+  -- the plan is within a turn
   abbrev pub InTurn : List (Item K V E) → Type 0
-  InTurn [] = ⊥
-  InTurn (plan.Apply ∷ rest) = InTurn rest
-  InTurn (plan.End ∷ rest) = weigh of_turn rest ≡ 0
-  InTurn (_ ∷ rest) = ⊥
+  InTurn plan = HasTurns true plan
 
   abbrev pub TurnsFirst : List (Item K V E) → Type 0
   TurnsFirst [] = Unit {0}
   TurnsFirst (plan.Turn ∷ rest) = InTurn rest
   TurnsFirst (plan.Apply ∷ rest) = InTurn rest
-  TurnsFirst (_ ∷ rest) = weigh of_turn rest ≡ 0
+  TurnsFirst (_ ∷ rest) = HasTurns false rest
 
   -- The turn is the call's exactly where it is in one.
   pub record TurnFits (turn : Option ℕ) (n : ℕ) (plan : List (Item K V E)) : Type 0 where
@@ -72,17 +75,17 @@ module _ {K V E : Type 0} where
 
   -- ---- plans with no part of a turn, and plans within one
 
-  calm_first : (plan : List (Item K V E)) → weigh of_turn plan ≡ 0 → TurnsFirst plan
+  calm_first : (plan : List (Item K V E)) → HasTurns false plan → TurnsFirst plan
   calm_first [] h = tt
-  calm_first (plan.Turn ∷ rest) h = absurd (omega arith)
-  calm_first (plan.Apply ∷ rest) h = absurd (omega arith)
-  calm_first (plan.End ∷ rest) h = absurd (omega arith)
-  calm_first (_ ∷ rest) h = omega arith
+  calm_first (plan.Turn ∷ rest) h = h
+  calm_first (plan.Apply ∷ rest) h = absurd h
+  calm_first (plan.End ∷ rest) h = absurd h
+  calm_first (_ ∷ rest) h = h
 
-  calm_not : (plan : List (Item K V E)) → weigh of_turn plan ≡ 0 → ¬ InTurn plan
+  calm_not : (plan : List (Item K V E)) → HasTurns false plan → ¬ InTurn plan
   calm_not [] h = λ t. t
-  calm_not (plan.Apply ∷ rest) h = absurd (omega arith)
-  calm_not (plan.End ∷ rest) h = absurd (omega arith)
+  calm_not (plan.Apply ∷ rest) h = absurd h
+  calm_not (plan.End ∷ rest) h = absurd h
   calm_not (_ ∷ rest) h = λ t. t
 
   in_first : (plan : List (Item K V E)) → InTurn plan → TurnsFirst plan
@@ -91,13 +94,13 @@ module _ {K V E : Type 0} where
   in_first [] h = absurd h
   in_first (_ ∷ rest) h = absurd h
 
-  calm_fits : (turn : Option ℕ) (n : ℕ) (plan : List (Item K V E)) → weigh of_turn plan ≡ 0 → turn ≢ Some n → TurnFits turn n plan
+  calm_fits : (turn : Option ℕ) (n : ℕ) (plan : List (Item K V E)) → HasTurns false plan → turn ≢ Some n → TurnFits turn n plan
   calm_fits turn n plan h not = record { first = calm_first plan h; has = λ e. absurd (not e); applies = λ t. absurd (calm_not plan h t) }
 
   -- ---- how a call goes on
 
-  goes_calm : (c : Call K V E) (rest : List (Item K V E)) → weigh of_turn rest ≡ 0 → weigh of_turn (plan_left (goes c rest).left) ≡ 0
-  goes_calm c (plan.Reply a ∷ []) h = refl
+  goes_calm : (c : Call K V E) (rest : List (Item K V E)) → HasTurns false rest → HasTurns false (plan_left (goes c rest).left)
+  goes_calm c (plan.Reply a ∷ []) h = tt
   goes_calm c _ h = h
 
   goes_fits : (turn : Option ℕ) (n : ℕ) (c : Call K V E) (rest : List (Item K V E)) → TurnFits turn n rest →
@@ -109,66 +112,78 @@ module _ {K V E : Type 0} where
   goes_mid c (plan.Reply a ∷ []) h = h
   goes_mid c _ h = refl
 
-  keeps_calm : (c : Call K V E) → weigh of_turn (plan_left (keeps c).left) ≡ 0
-  keeps_calm c = kept_next (λ v. weigh of_turn (plan_left v.left) ≡ 0) c (λ off. refl) (λ on. refl)
+  keeps_calm : (c : Call K V E) → HasTurns false (plan_left (keeps c).left)
+  keeps_calm c = kept_next (λ v. HasTurns false (plan_left v.left)) c (λ off. tt) (λ on. tt)
 
-  misses_calm : (c : Call K V E) (aim : Aim K V) → weigh of_turn (plan_left (misses c aim).left) ≡ 0
+  misses_calm : (c : Call K V E) (aim : Aim K V) → HasTurns false (plan_left (misses c aim).left)
   misses_calm c (plan.To_insert key value) =
-      put_plans (λ p. weigh of_turn (plan_left (goes c p).left) ≡ 0) c.rules key value _ refl refl
+      put_plans (λ p. HasTurns false (plan_left (goes c p).left)) c.rules key value _ tt tt
   misses_calm c (plan.To_evict key stamp cause) = keeps_calm c
-  misses_calm c _ = refl
+  misses_calm c _ = tt
 
   finds_calm : (c : Call K V E) (aim : Aim K V) (there : K) (stored : Stored V) →
-      weigh of_turn (plan_left (finds_pair c aim there stored).left) ≡ 0
+      HasTurns false (plan_left (finds_pair c aim there stored).left)
   finds_calm c (plan.To_evict key stamp cause) there stored =
-      chosen_by (λ v. weigh of_turn (plan_left v.left) ≡ 0) c key stamp cause there stored
-      (λ other. keeps_calm c) (λ same. refl)
-  finds_calm c _ there stored = refl
+      chosen_by (λ v. HasTurns false (plan_left v.left)) c key stamp cause there stored
+      (λ other. keeps_calm c) (λ same. tt)
+  finds_calm c _ there stored = tt
 
-  hits_calm : (c : Call K V E) (aim : Aim K V) (there : K) (value : V) → weigh of_turn c.plan ≡ 0 →
-      weigh of_turn (plan_left (hits c aim there value).left) ≡ 0
+  hits_calm : (c : Call K V E) (aim : Aim K V) (there : K) (value : V) → HasTurns false c.plan →
+      HasTurns false (plan_left (hits c aim there value).left)
   hits_calm c (plan.To_evict key stamp cause) there value h = h
-  hits_calm c _ there value h = refl
+  hits_calm c _ there value h = tt
 
-  read_calm : (c : Call K V E) (sought : Sought K) (with : Settled V E) → weigh of_turn c.plan ≡ 0 →
-      weigh of_turn (plan_left (after_read c sought (found.ReadSettled with)).left) ≡ 0
+  read_calm : (c : Call K V E) (sought : Sought K) (with : Settled V E) → HasTurns false c.plan →
+      HasTurns false (plan_left (after_read c sought (found.ReadSettled with)).left)
   read_calm c sought settled.NotYet h = h
-  read_calm c sought settled.Aborted h = abort_next (λ v. weigh of_turn (plan_left v.left) ≡ 0) c sought refl refl
-  read_calm c sought _ h = refl
+  read_calm c sought settled.Aborted h = abort_next (λ v. HasTurns false (plan_left v.left)) c sought tt tt
+  read_calm c sought _ h = tt
 
   read_key_calm : (c : Call K V E) (compute : Compute K) (with : Settled V E) →
-      weigh of_turn c.plan ≡ 0 →
-      weigh of_turn (plan_left (after_read_key c compute (found.ReadSettled with)).left) ≡ 0
+      HasTurns false c.plan →
+      HasTurns false (plan_left (after_read_key c compute (found.ReadSettled with)).left)
   read_key_calm c compute with h =
-      read_key_next (λ v. weigh of_turn (plan_left v.left) ≡ 0) c compute with
+      read_key_next (λ v. HasTurns false (plan_left v.left)) c compute with
       (h)
-      (refl)
+      (tt)
 
-  told_calm : (c : Call K V E) (load : Load K) (given : Told V E) → weigh of_turn c.plan ≡ 0 →
-      weigh of_turn (plan_left (after_told c load (found.TakeTold (Some given))).left) ≡ 0
+  told_calm : (c : Call K V E) (load : Load K) (given : Told V E) → HasTurns false c.plan →
+      HasTurns false (plan_left (after_told c load (found.TakeTold (Some given))).left)
   told_calm c load (answer.Value value) h =
-      loaded_plans (λ p. weigh of_turn (plan_left (goes c p).left) ≡
-      0) c.rules load value refl refl refl
-  told_calm c load answer.Nothing h = refl
-  told_calm c load (answer.Err error) h = refl
+      loaded_plans (λ p. HasTurns false (plan_left (goes c p).left)) c.rules load value tt tt tt
+  told_calm c load answer.Nothing h = tt
+  told_calm c load (answer.Err error) h = tt
   told_calm c load _ h = h
 
   told_op_calm : (c : Call K V E) (compute : Compute K) (pair : Option (K × V)) (given : Told V E) →
-      weigh of_turn c.plan ≡ 0 →
-      weigh of_turn (plan_left (after_told_op c compute pair (found.TakeTold (Some given))).left) ≡ 0
+      HasTurns false c.plan →
+      HasTurns false (plan_left (after_told_op c compute pair (found.TakeTold (Some given))).left)
   told_op_calm c compute pair given h =
-      told_op_next (λ v. weigh of_turn (plan_left v.left) ≡ 0) c compute pair given
-      (λ a. refl)
-      (λ value able off. refl)
-      (λ value able on. refl)
-      (λ off. refl)
-      (λ on. refl)
+      told_op_next (λ v. HasTurns false (plan_left v.left)) c compute pair given
+      (λ a. tt)
+      (λ value able off. tt)
+      (λ value able on. tt)
+      (λ off. tt)
+      (λ on. tt)
       (h)
 
-  form_calm : (rules : Rules) (p : List (Item K V E)) → IsFresh rules p → weigh of_turn p ≡ 0
-  form_calm rules p (Disabled a d plain) = refl
-  form_calm rules p (Walks_over parts able) = weigh_walk of_turn (record { list = λ part. refl; find = λ key. refl; scan = λ there stored. refl; end = refl }) p (walk_is_walk 0 parts)
-  form_calm rules p _ = refl
+  walk_calm : (p : List (Item K V E)) → IsWalk p → HasTurns false p
+  walk_calm p Ends = tt
+  walk_calm p Retires = tt
+  walk_calm p (Chooses parts) = tt
+  walk_calm p (Strikes there stored rest walk) = walk_calm rest walk
+  walk_calm p (Lists part rest walk) = walk_calm rest walk
+  walk_calm p (Finds key rest walk) = walk_calm rest walk
+  walk_calm p (Scans there stored rest walk) = walk_calm rest walk
+
+  keys_calm : (keys : List K) (rest : List (Item K V E)) → HasTurns false rest → HasTurns false (map plan.Find keys ++ rest)
+  keys_calm [] rest h = h
+  keys_calm (key ∷ keys) rest h = keys_calm keys rest h
+
+  form_calm : (rules : Rules) (p : List (Item K V E)) → IsFresh rules p → HasTurns false p
+  form_calm rules p (Disabled a d plain) = tt
+  form_calm rules p (Walks_over parts able) = walk_calm p (walk_is_walk 0 parts)
+  form_calm rules p _ = tt
 
   -- ---- a step
 
@@ -183,7 +198,7 @@ module _ {K V E : Type 0} where
   free_other d n m free h e = false≢true (sym (other_number n m h) ∙ sym (ap (λ o. option_map_or (λ v. v == n) o true) e) ∙ free)
 
   module _ (turn : Option ℕ) (n : ℕ) where
-    calm : {left : Option (Call K V E)} → weigh of_turn (plan_left left) ≡ 0 → turn ≢ Some n → Turns turn n turn left
+    calm : {left : Option (Call K V E)} → HasTurns false (plan_left left) → turn ≢ Some n → Turns turn n turn left
     calm {left = l} h not = record {
       fits = calm_fits turn n (plan_left l) h not;
       mid = λ t. absurd (calm_not (plan_left l) h t);
@@ -198,27 +213,27 @@ module _ {K V E : Type 0} where
         Outcomes eq Leaves w n c item rest
     on_item plan.Drain rest e q = (
       λ none. calm _ n (goes_calm c rest q.first) q.has,
-      λ x xs some. calm _ n (omega (arith, q.first)) q.has,
-      λ x number xs some. calm _ n (omega (arith, q.first)) q.has,
+      λ x xs some. calm _ n q.first q.has,
+      λ x number xs some. calm _ n q.first q.has,
     )
     on_item (plan.Ended number) rest e q =
-        let c_calm : weigh of_turn c.plan ≡ 0 = omega (arith, ap (weigh of_turn) e, q.first) in
+        let c_calm : HasTurns false c.plan = subst (HasTurns false) (sym e) q.first in
         (λ ended. calm _ n (goes_calm c rest q.first) q.has, λ runs. calm _ n c_calm q.has)
     on_item plan.Heard rest e q =
-        let c_calm : weigh of_turn c.plan ≡ 0 = omega (arith, ap (weigh of_turn) e, q.first) in
+        let c_calm : HasTurns false c.plan = subst (HasTurns false) (sym e) q.first in
         (λ ended. calm _ n (goes_calm c rest q.first) q.has, λ runs. calm _ n c_calm q.has)
     on_item (plan.Lock key) rest e q =
-        let c_calm : weigh of_turn c.plan ≡ 0 = omega (arith, ap (weigh of_turn) e, q.first) in
+        let c_calm : HasTurns false c.plan = subst (HasTurns false) (sym e) q.first in
         (λ free. calm _ n (goes_calm c rest q.first) q.has, λ held. calm _ n c_calm q.has)
     on_item (plan.Notice key old cause upsert) rest e q = (
       λ off. calm _ n (goes_calm c rest q.first) q.has,
       λ on. calm _ n
-          (omega (arith, q.first)) q.has,
+          q.first q.has,
     )
     on_item (plan.Post write) rest e q = (
       λ room. calm _ n (goes_calm c rest q.first) q.has,
       λ full. record {
-        fits = record { first = omega (arith, q.first); has = λ h. absurd (q.has h); applies = λ t. absurd t };
+        fits = record { first = q.first; has = λ h. absurd (q.has h); applies = λ t. absurd t };
         mid = λ t. absurd t;
         others = λ m d. (λ e. e, λ e. e);
       },
@@ -240,93 +255,100 @@ module _ {K V E : Type 0} where
       λ x xs some. record { fits = record { first = q.first; has = q.has; applies = q.applies }; mid = λ t. refl; others = λ m d. (λ e. e, λ e. e) },
     )
     on_item plan.End rest e q = record {
-      fits = calm_fits None n _ (goes_calm c rest q.first) none_some;
-      mid = λ t. absurd (calm_not _ (goes_calm c rest q.first) t);
+      fits = calm_fits None n (plan_left (goes c rest).left) (goes_calm c rest q.first) none_some;
+      mid = λ t. absurd (calm_not (plan_left (goes c rest).left) (goes_calm c rest q.first) t);
       others = λ m d. (λ h. absurd (none_some h), λ h. absurd (differ_not n m d (some_same (sym (q.applies q.first) ∙ h))));
     }
     on_item (plan.Get aim key) rest e q =
-        let c_calm : weigh of_turn c.plan ≡ 0 = omega (arith, ap (weigh of_turn) e, q.first) in (
+        let c_calm : HasTurns false c.plan = subst (HasTurns false) (sym e) q.first in (
           (λ more. calm _ n c_calm q.has),
           (λ none. calm _ n (misses_calm c aim) q.has),
           λ k stored some. calm _ n (finds_calm c aim k stored) q.has,
         )
     on_item (plan.Judge aim key stored) rest e q =
-        let c_calm : weigh of_turn c.plan ≡ 0 = omega (arith, ap (weigh of_turn) e, q.first) in (
+        let c_calm : HasTurns false c.plan = subst (HasTurns false) (sym e) q.first in (
           (λ seen. calm _ n (hits_calm c aim key stored.value c_calm) q.has),
           λ unseen. calm _ n (misses_calm c aim) q.has,
         )
     on_item (plan.Own sought) rest e q = (
-      λ able none. calm _ n refl q.has,
-      λ disabled none. calm _ n refl q.has,
-      λ owner some. calm _ n refl q.has,
+      λ able none. calm _ n tt q.has,
+      λ disabled none. calm _ n tt q.has,
+      λ owner some. calm _ n tt q.has,
     )
     on_item (plan.Own_key compute) rest e q = (
-      ((λ able none. calm _ n refl q.has), λ disabled none. calm _ n refl q.has),
-      λ owner some. calm _ n refl q.has,
+      ((λ able none. calm _ n tt q.has), λ disabled none. calm _ n tt q.has),
+      λ owner some. calm _ n tt q.has,
     )
     on_item (plan.Own_alone key) rest e q = (
-      ((λ able none. calm _ n refl q.has), λ disabled none. calm _ n refl q.has),
-      λ owner some. ((λ able. calm _ n refl q.has), λ not. calm _ n refl q.has),
+      ((λ able none. calm _ n tt q.has), λ disabled none. calm _ n tt q.has),
+      λ owner some. ((λ able. calm _ n tt q.has), λ not. calm _ n tt q.has),
     )
     on_item (plan.Read sought) rest e q =
-        let c_calm : weigh of_turn c.plan ≡ 0 = omega (arith, ap (weigh of_turn) e, q.first) in
+        let c_calm : HasTurns false c.plan = subst (HasTurns false) (sym e) q.first in
         (λ none. calm _ n c_calm q.has, λ with some. calm _ n (read_calm c sought with c_calm) q.has)
     on_item (plan.Read_key compute) rest e q =
-        let c_calm : weigh of_turn c.plan ≡ 0 = omega (arith, ap (weigh of_turn) e, q.first) in (
+        let c_calm : HasTurns false c.plan = subst (HasTurns false) (sym e) q.first in (
           λ none. calm _ n c_calm q.has,
           λ with some. calm _ n (read_key_calm c compute with c_calm) q.has,
         )
-    on_item (plan.Ask load) rest e q = calm _ n refl q.has
-    on_item (plan.Ask_op compute pair) rest e q = calm _ n refl q.has
+    on_item (plan.Ask load) rest e q = calm _ n tt q.has
+    on_item (plan.Ask_op compute pair) rest e q = calm _ n tt q.has
     on_item (plan.Told load) rest e q =
-        let c_calm : weigh of_turn c.plan ≡ 0 = omega (arith, ap (weigh of_turn) e, q.first) in
+        let c_calm : HasTurns false c.plan = subst (HasTurns false) (sym e) q.first in
         (λ none. calm _ n c_calm q.has, λ given some. calm _ n (told_calm c load given c_calm) q.has)
     on_item (plan.Told_op compute pair) rest e q =
-        let c_calm : weigh of_turn c.plan ≡ 0 = omega (arith, ap (weigh of_turn) e, q.first) in (
+        let c_calm : HasTurns false c.plan = subst (HasTurns false) (sym e) q.first in (
           λ none. calm _ n c_calm q.has,
           λ given some. calm _ n (told_op_calm c compute pair given c_calm) q.has,
         )
     on_item (plan.Holds key stamp cause there stored) rest e q =
-        (λ holds. calm _ n refl q.has, λ not. calm _ n (keeps_calm c) q.has)
+        (λ holds. calm _ n tt q.has, λ not. calm _ n (keeps_calm c) q.has)
     on_item (plan.Moment (plan.To_store key value)) rest e q = calm _ n
-        (omega (arith, q.first)) q.has
+        q.first q.has
     on_item (plan.Moment (plan.To_take_out removal key)) rest e q = calm _ n
-        (omega (arith, q.first)) q.has
+        q.first q.has
     on_item (plan.Write key value moment) rest e q =
-        let c_calm : weigh of_turn c.plan ≡ 0 = omega (arith, ap (weigh of_turn) e, q.first) in (
+        let c_calm : HasTurns false c.plan = subst (HasTurns false) (sym e) q.first in (
           (λ more. calm _ n c_calm q.has),
-          (λ off old. calm _ n (omega (arith, q.first)) q.has),
-          (λ on. calm _ n (omega (arith, q.first)) q.has),
-          λ k old on some. calm _ n (omega (arith, q.first)) q.has,
+          (λ off old. calm _ n q.first q.has),
+          (λ on. calm _ n q.first q.has),
+          λ k old on some. calm _ n q.first q.has,
         )
     on_item (plan.Out removal key) rest e q =
-        let c_calm : weigh of_turn c.plan ≡ 0 = omega (arith, ap (weigh of_turn) e, q.first) in (
+        let c_calm : HasTurns false c.plan = subst (HasTurns false) (sym e) q.first in (
           (λ more. calm _ n c_calm q.has),
-          (λ off none. calm _ n (said_next (λ v. weigh of_turn (plan_left v.left) ≡ 0) c (λ q. plan.Idle ∷ q) removal (nothing_answer removal) refl refl) q.has),
-          (λ on none. calm _ n (said_next (λ v. weigh of_turn (plan_left v.left) ≡ 0) c (λ q. plan.Unlock false ∷ q) removal (nothing_answer removal) refl refl) q.has),
-          (λ k old off some. calm _ n (said_next (λ v. weigh of_turn (plan_left v.left) ≡ 0) c (λ q. plan.Post (Remove n old.stamp) ∷ q) removal (removed_answer removal old.value) refl refl) q.has),
-          λ k old on some. calm _ n (said_next (λ v. weigh of_turn (plan_left v.left) ≡ 0) c (λ q. plan.Notice key old (cause_handed removal) false ∷ plan.Unlock true ∷ plan.Post (Remove n old.stamp) ∷ q) removal (removed_answer removal old.value) refl refl) q.has,
+          (λ off none. calm _ n (said_next (λ v. HasTurns false (plan_left v.left)) c (λ q. plan.Idle ∷ q) removal (nothing_answer removal) tt tt) q.has),
+          (λ on none. calm _ n (said_next (λ v. HasTurns false (plan_left v.left)) c (λ q. plan.Unlock false ∷ q) removal (nothing_answer removal) tt tt) q.has),
+          (λ k old off some. calm _ n (said_next (λ v. HasTurns false (plan_left v.left)) c (λ q. plan.Post (Remove n old.stamp) ∷ q) removal (removed_answer removal old.value) tt tt) q.has),
+          λ k old on some. calm _ n (said_next (λ v. HasTurns false (plan_left v.left)) c (λ q. plan.Notice key old (cause_handed removal) false ∷ plan.Unlock true ∷ plan.Post (Remove n old.stamp) ∷ q) removal (removed_answer removal old.value) tt tt) q.has,
         )
     on_item (plan.List_keys part) rest e q =
-        let c_calm : weigh of_turn c.plan ≡ 0 = omega (arith, ap (weigh of_turn) e, q.first) in (
+        let c_calm : HasTurns false c.plan = subst (HasTurns false) (sym e) q.first in (
           (λ more. calm _ n c_calm q.has),
           λ listed keys is gives. calm _ n
-              (goes_calm c (map plan.Find keys ++ rest) (weigh_finds of_turn (λ key. refl) keys rest ∙ q.first)) q.has,
+              (goes_calm c (map plan.Find keys ++ rest) (keys_calm keys rest q.first)) q.has,
         )
     on_item (plan.Find key) rest e q =
-        let c_calm : weigh of_turn c.plan ≡ 0 = omega (arith, ap (weigh of_turn) e, q.first) in (
+        let c_calm : HasTurns false c.plan = subst (HasTurns false) (sym e) q.first in (
           (λ more. calm _ n c_calm q.has),
           (λ none. calm _ n (goes_calm c rest q.first) q.has),
-          λ k stored some. calm _ n (omega (arith, q.first)) q.has,
+          (λ k stored some none. calm _ n q.first q.has),
+          λ k stored ids some is. calm _ n q.first q.has,
         )
     on_item (plan.Scan there stored) rest e q =
         ((λ seen. calm _ n q.first q.has), λ unseen. calm _ n (goes_calm c rest q.first) q.has)
-    on_item (plan.Register test) rest e q = calm _ n refl q.has
-    on_item (plan.Reply answer) rest e q = calm _ n refl q.has
+    on_item (plan.Register test) rest e q = calm _ n tt q.has
+    on_item (plan.Candidates parts) rest e q = (
+      (λ none. calm _ n tt q.has),
+      λ id more some. calm _ n (goes_calm (carrying c (id ∷ more)) (lists_from 0 parts (plan.Retire ∷ [])) (walk_calm _ (retiring_walk parts))) q.has,
+    )
+    on_item (plan.Strike there stored) rest e q = calm _ n (goes_calm (carrying c _) rest q.first) q.has
+    on_item plan.Retire rest e q = calm _ n tt q.has
+    on_item (plan.Reply answer) rest e q = calm _ n tt q.has
     on_item _ rest e q = calm _ n (goes_calm c rest q.first) q.has
 
     on_plan : (plan : List (Item K V E)) → c.plan ≡ plan → TurnFits w.desk.turn n c.plan → OnStep eq Leaves w n c plan
-    on_plan [] e f = calm _ n (ap (weigh of_turn) e) (λ h. subst InTurn e (f.has h))
+    on_plan [] e f = calm _ n (subst (HasTurns false) (sym e) tt) (λ h. subst InTurn e (f.has h))
     on_plan (item ∷ rest) e f = outcomes eq Leaves w n c item rest (on_item item rest e (subst (TurnFits w.desk.turn n) e f))
 
   -- ---- of a state
@@ -387,7 +409,7 @@ module _ {K V E : Type 0} (eq : K → K → Bool) where
         record { balanced = (balanced_kept eq).hear s n off running i.balanced; fits = i.fits; mid = i.mid };
     drop = λ s n c live between i.
         let idle : s.world.desk.turn ≢ Some n = λ e. between (subst IsMid live (i.mid n ((i.fits n).has e))) in
-        turns s n _ None i (calm s.world.desk.turn n refl idle) ((balanced_kept eq).drop s n c live between i.balanced);
+        turns s n _ None i (calm s.world.desk.turn n tt idle) ((balanced_kept eq).drop s n c live between i.balanced);
   }
 
   in_applies : (plan : List (Item K V E)) → InTurn plan → IsApplying plan

@@ -31,7 +31,7 @@ use Rattle.moka_laws.proofs.Owning.{plan_left}
 use Rattle.moka_laws.proofs.Plans.{Settling, IsDrained, Locking_out, Ended, IsPlan, Posted, Drained, IsKnown, known_kept, Walking}
 use Rattle.moka_laws.proofs.Roles.{Fits}
 use Rattle.moka_laws.proofs.Served.{IsServed}
-use Rattle.moka_laws.proofs.Walks.{Ends, Finds, Lists, Scans}
+use Rattle.moka_laws.proofs.Walks.{Ends, Finds, Lists, Scans, Chooses, Retires, Strikes}
 
 module _ {K V E : Type 0} where
   -- What is kept of an end is kept of a call that has ended.
@@ -137,26 +137,29 @@ module _ {K V E : Type 0} where
   settle_last p (Posted q (Ended r (Settling x a))) with rest e = (a, sym (rest_of e))
   settle_last p (Drained q d) with rest e = drained_last q d with rest e
   settle_last p (Walking q Ends) with rest e = (answer.Done, cc)
+  settle_last p (Walking q Retires) with rest e = (answer.Done, cc)
+  settle_last p (Walking q (Chooses parts)) with rest e = (answer.Done, cc)
+  settle_last p (Walking q (Strikes there stored more walk)) with rest e = (answer.Done, cc)
   settle_last p (Walking q (Lists part more walk)) with rest e = (answer.Done, cc)
   settle_last p (Walking q (Finds key more walk)) with rest e = (answer.Done, cc)
   settle_last p (Walking q (Scans there stored more walk)) with rest e = (answer.Done, cc)
   settle_last p _ with rest e = (answer.Done, cc)
 
-  settles_item : (n m : ℕ) (with : Settled V E) (item : Item K V E) →
-      access_for n item ≡ On_desk (visit.Settle m with) →
+  settles_item : (n m : ℕ) (ids : Option (List (ℕ × ℕ))) (with : Settled V E) (item : Item K V E) →
+      access_for n ids item ≡ On_desk (visit.Settle m with) →
       (m ≡ n) × (item ≡ plan.Settle with)
-  settles_item n m with (plan.Settle x) e = (cc, cc)
-  settles_item n m with _ e = (cc, cc)
+  settles_item n m ids with (plan.Settle x) e = (cc, cc)
+  settles_item n m ids with _ e = (cc, cc)
 
   -- the call's access settles, by the first item of its plan
   ends_so : (n m : ℕ) (with : Settled V E) (rules : Rules) (mode : Mode) (p : List (Item K V E))
-      (aborts : ℕ) (f : Got K V E) →
-      let c : Call K V E = record { rules = rules; mode = mode; plan = p; aborts = aborts } in
+      (aborts : ℕ) (ids : Option (List (ℕ × ℕ))) (f : Got K V E) →
+      let c : Call K V E = record { rules = rules; mode = mode; plan = p; aborts = aborts; carried = ids } in
       IsPlan p → access_of n c ≡ On_desk (visit.Settle m with) → f ≡ got.Desk found.Settle →
       (m ≡ n) × ((next_of n c f).left ≡ None)
-  ends_so n m with rules mode [] aborts f known e given = (cc, cc)
-  ends_so n m with rules mode (item ∷ rest) aborts f known e given =
-      let is : (m ≡ n) × (item ≡ plan.Settle with) = settles_item n m with item e in
+  ends_so n m with rules mode [] aborts ids f known e given = (cc, cc)
+  ends_so n m with rules mode (item ∷ rest) aborts ids f known e given =
+      let is : (m ≡ n) × (item ≡ plan.Settle with) = settles_item n m ids with item e in
       let last : (a : Answer K V E) × (rest ≡ plan.Reply a ∷ []) = settle_last (item ∷ rest) known with rest (ap (λ v. v ∷ rest) is.1) in
       (is.0, rw (given, is.1, last.1) refl)
 
@@ -245,7 +248,7 @@ module _ {K V E : Type 0} (eq : K → K → Bool) where
             ⊎ IsSome (s.world.desk.settled m) →
             (put_at s.calls n left m ≡ None) × (m ≤ s.world.desk.last)
         by (inl h) =
-            let e : (m ≡ n) × (left ≡ None) = ends_so n m h.0 step.call.rules step.call.mode step.call.plan step.call.aborts step.given
+            let e : (m ≡ n) × (left ≡ None) = ends_so n m h.0 step.call.rules step.call.mode step.call.plan step.call.aborts step.call.carried step.given
             (i.known n step.call step.live).plan h.1 h.2 in (
               subst (λ v. put_at s.calls n left v ≡ None) (sym e.0) (put_here s.calls n left ∙ e.1),
               subst (λ v. v ≤ s.world.desk.last) (sym e.0) (i.numbered n step.call step.live),

@@ -3,7 +3,7 @@ use Rattle.std.proofs.Common.{◌≡◌, ◌≢◌, ◌↔◌, ℕ, ◌+◌, ◌
 use Rattle.std.proofs.lemmas.Bool.{false≢true}
 use Rattle.moka_hist.specs.declared.replies.Answer.TheVariants as reply
 use Rattle.moka_hist.specs.State.{World, Call}
-use Rattle.moka_hist.specs.Plan.{Item, Aim, told_on}
+use Rattle.moka_hist.specs.Plan.{Item, Aim, told_on, lists_from}
 use Rattle.moka_hist.specs.Plan as plan
 use Rattle.moka_hist.specs.Next.{Next, goes, waits}
 use Rattle.moka_hist.specs.Looking.{hits, misses, keeps, finds_pair}
@@ -33,6 +33,7 @@ use Rattle.moka_laws.proofs.Asking.{AsksWhole, ask_open, ask_closed, op_open, op
 use Rattle.moka_hist.specs.declared.loads.Compute.{Compute}
 use Rattle.moka_hist.specs.Computing.{after_told_op, after_read_key}
 use Rattle.moka_laws.proofs.Walks.{IsWalk, Ends}
+use Rattle.moka_hist.specs.Maintenance.{carrying}
 
 not_none : {A : Type 0} {a : A} (o : Option A) → o ≡ Some a → ¬ IsNone o
 not_none None e = λ h. none_some e
@@ -250,11 +251,18 @@ module _ {K V E : Type 0} where
     on_item (plan.Find key) rest p t l = (
       (λ more. never w c (λ q. q) (λ e. cc)),
       (λ none. never w c (λ q. q) (goes_on c rest)),
-      λ k stored some. never w c (λ q. q) (λ e. cc),
+      (λ k stored some none. never w c (λ q. q) (λ e. cc)),
+      λ k stored ids some is. never w c (λ q. q) (λ e. cc),
     )
     on_item (plan.Scan there stored) rest p t l =
         ((λ seen. never w c (λ q. q) (λ e. cc)), λ unseen. never w c (λ q. q) (goes_on c rest))
     on_item (plan.Register test) rest p t l = never w c (λ q. q) (λ e. cc)
+    on_item (plan.Candidates parts) rest p t l = (
+      (λ none. never w c (λ q. q) (λ e. cc)),
+      λ id more some. never w c (λ q. q) (goes_on (carrying c (id ∷ more)) (lists_from 0 parts (plan.Retire ∷ []))),
+    )
+    on_item (plan.Strike there stored) rest p t l = never w c (λ q. q) (goes_on (carrying c _) rest)
+    on_item plan.Retire rest p t l = never w c (λ q. q) (λ e. cc)
     on_item (plan.Reply answer) rest p t l = never w c (λ q. q) (λ e. cc)
     on_item _ rest p t l = never w c (λ q. q) (goes_on c rest)
 

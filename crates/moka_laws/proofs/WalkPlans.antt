@@ -4,11 +4,12 @@ use Rattle.std.specs.Cmp.{IsEquivalence}
 use Rattle.std.specs.List.{AllByRecursion, IsDistinct}
 use Rattle.moka_hist.specs.Bound.{array_bound}
 use Rattle.moka_hist.specs.State.{Division, Listed, TablePart}
-use Rattle.moka_hist.specs.Plan.{Item, walk_from}
+use Rattle.moka_hist.specs.Plan.{Item, lists_from, walk_from}
 use Rattle.moka_hist.specs.Plan as plan
 use Rattle.moka_hist.specs.Run.{Divides}
 use Rattle.moka_hist.specs.Tables.{GivesKeys}
 use Rattle.moka_hist.specs.declared.records.Stored.{Stored}
+use Rattle.moka_hist.specs.declared.replies.Answer.TheVariants as answer
 use Rattle.moka_laws.proofs.Walks.{weigh_finds}
 use Rattle.moka_laws.proofs.Weights.{weigh}
 
@@ -27,14 +28,16 @@ parts_differ eq division divides a b less = by (eq a b) refl
     by true e = absurd (omega (arith, less, divides.alike a b e))
 
 module _ {K V E : Type 0} where
-  -- the item makes a list; it looks a listed key up or judges what was found
+  -- how many lists the item makes, or will lead to; it looks a listed key up or judges what was found
   abbrev pub list_of : Item K V E → ℕ
   list_of (plan.List_keys part) = 1
+  list_of (plan.Candidates parts) = parts
   list_of _ = 0
 
   abbrev pub look_of : Item K V E → ℕ
   look_of (plan.Find key) = 1
   look_of (plan.Scan there found) = 1
+  look_of (plan.Strike there found) = 1
   look_of _ = 0
 
   -- how many looks stand behind a list
@@ -42,12 +45,14 @@ module _ {K V E : Type 0} where
   late_looks (plan.List_keys part ∷ rest) = weigh look_of rest
   late_looks (plan.Find key ∷ rest) = late_looks rest
   late_looks (plan.Scan there found ∷ rest) = late_looks rest
+  late_looks (plan.Strike there found ∷ rest) = late_looks rest
   late_looks _ = 0
 
   pub late_none : (p : List (Item K V E)) → weigh look_of p ≡ 0 → late_looks p ≡ 0
   late_none (plan.List_keys part ∷ rest) h = omega arith
   late_none (plan.Find key ∷ rest) h = absurd (omega arith)
   late_none (plan.Scan there found ∷ rest) h = absurd (omega arith)
+  late_none (plan.Strike there found ∷ rest) h = absurd (omega arith)
   late_none [] h = refl
   late_none (_ ∷ rest) h = refl
 
@@ -63,6 +68,7 @@ module _ {K V E : Type 0} where
   abbrev pub Above : ℕ → List (Item K V E) → Type 0
   Above part [] = Unit {0}
   Above part (plan.List_keys q ∷ rest) = (part < q) × Above part rest
+  Above part (plan.Candidates parts ∷ rest) = ⊥
   Above part (_ ∷ rest) = Above part rest
 
   pub above_finds : (part : ℕ) (keys : List K) (rest : List (Item K V E)) → Above part rest → Above part (map plan.Find keys ++ rest)
@@ -75,18 +81,18 @@ module _ {K V E : Type 0} where
   BeginsWith part _ = ⊥
 
 -- of the plan that lists so many parts, from one on
-module _ (K V E : Type 0) where
-  pub above_from : (below part left : ℕ) → below < part → Above {K = K} {V = V} {E = E} below (walk_from part left)
-  above_from below part zero h = tt
-  above_from below part (suc left) h = (h, above_from below (part + 1) left (omega arith))
+module _ {K V E : Type 0} (end : List (Item K V E)) where
+  pub above_from : ((below : ℕ) → Above below end) → (below part left : ℕ) → below < part → Above below (lists_from part left end)
+  above_from over below part zero h = over below
+  above_from over below part (suc left) h = (h, above_from over below (part + 1) left (omega arith))
 
-  pub few_from : (part left : ℕ) → weigh list_of (walk_from {K = K} {V = V} {E = E} part left) ≡ left
-  few_from part zero = refl
+  pub few_from : (part left : ℕ) → weigh list_of (lists_from part left end) ≡ left + weigh list_of end
+  few_from part zero = omega arith
   few_from part (suc left) = let h = few_from (part + 1) left in omega arith
 
-  pub no_looks_from : (part left : ℕ) → weigh look_of (walk_from {K = K} {V = V} {E = E} part left) ≡ 0
-  no_looks_from part zero = refl
-  no_looks_from part (suc left) = let h = no_looks_from (part + 1) left in omega arith
+  pub no_looks_from : (part left : ℕ) → weigh look_of end ≡ 0 → weigh look_of (lists_from part left end) ≡ 0
+  no_looks_from part zero none = none
+  no_looks_from part (suc left) none = let h = no_looks_from (part + 1) left none in omega arith
 
 module _ {K V E : Type 0} (eq : K → K → Bool) (division : Division K) where
   -- the walk comes to no key that equals this one: it neither looks it up nor judges its record, and
@@ -94,8 +100,10 @@ module _ {K V E : Type 0} (eq : K → K → Bool) (division : Division K) where
   abbrev pub Past : K → List (Item K V E) → Type 0
   Past key [] = Unit {0}
   Past key (plan.List_keys q ∷ rest) = (division.part_of key < q) × Past key rest
+  Past key (plan.Candidates parts ∷ rest) = ⊥
   Past key (plan.Find other ∷ rest) = (eq key other ≡ false) × Past key rest
   Past key (plan.Scan there found ∷ rest) = (eq key there ≡ false) × Past key rest
+  Past key (plan.Strike there found ∷ rest) = (eq key there ≡ false) × Past key rest
   Past key (_ ∷ rest) = Past key rest
 
   -- it comes to no key twice
@@ -104,6 +112,7 @@ module _ {K V E : Type 0} (eq : K → K → Bool) (division : Division K) where
   Apart (plan.List_keys q ∷ rest) = Above q rest × Apart rest
   Apart (plan.Find key ∷ rest) = Past key rest × Apart rest
   Apart (plan.Scan there found ∷ rest) = Past there rest × Apart rest
+  Apart (plan.Strike there found ∷ rest) = Past there rest × Apart rest
   Apart (_ ∷ rest) = Apart rest
 
   -- where no key is to be looked up, a list's key is past what has only later parts to list
@@ -112,6 +121,8 @@ module _ {K V E : Type 0} (eq : K → K → Bool) (division : Division K) where
   past_lists key part (plan.List_keys q ∷ rest) is none above = (omega (arith, is, above.0), past_lists key part rest is (omega (arith, none)) above.1)
   past_lists key part (plan.Find other ∷ rest) is none above = absurd (omega (arith, none))
   past_lists key part (plan.Scan there found ∷ rest) is none above = absurd (omega (arith, none))
+  past_lists key part (plan.Candidates parts ∷ rest) is none above = absurd above
+  past_lists key part (plan.Strike there found ∷ rest) is none above = absurd (omega (arith, none))
   past_lists key part (_ ∷ rest) is none above = past_lists key part rest is (omega (arith, none)) above
 
   pub past_finds : (key : K) (keys : List K) (rest : List (Item K V E)) → AllByRecursion (λ q. eq key q ≡ false) keys → Past key rest →
@@ -137,14 +148,16 @@ module _ {K V E : Type 0} (eq : K → K → Bool) (division : Division K) where
       (omega (arith, h.0, divides.alike a b e), past_alike laws divides a b e rest h.1)
   past_alike laws divides a b e (plan.Find other ∷ rest) h = (laws.congr a b other e ∙ h.0, past_alike laws divides a b e rest h.1)
   past_alike laws divides a b e (plan.Scan there found ∷ rest) h = (laws.congr a b there e ∙ h.0, past_alike laws divides a b e rest h.1)
+  past_alike laws divides a b e (plan.Candidates parts ∷ rest) h = absurd h
+  past_alike laws divides a b e (plan.Strike there found ∷ rest) h = (laws.congr a b there e ∙ h.0, past_alike laws divides a b e rest h.1)
   past_alike laws divides a b e (_ ∷ rest) h = past_alike laws divides a b e rest h
 
 -- the plan that lists each part once comes to no key twice
-pub apart_from : {K : Type 0} (V E : Type 0) (eq : K → K → Bool) (division : Division K) (part left : ℕ) →
-    Apart {K = K} {V = V} {E = E} eq division (walk_from part left)
-apart_from V E eq division part zero = tt
-apart_from {K} V E eq division part (suc left) =
-    (above_from K V E part (part + 1) left (omega arith), apart_from V E eq division (part + 1) left)
+pub apart_from : {K V E : Type 0} (eq : K → K → Bool) (division : Division K) (end : List (Item K V E)) → ((below : ℕ) → Above below end) →
+    Apart eq division end → (part left : ℕ) → Apart eq division (lists_from part left end)
+apart_from eq division end over apart part zero = apart
+apart_from eq division end over apart part (suc left) =
+    (above_from end over part (part + 1) left (omega arith), apart_from eq division end over apart (part + 1) left)
 
 module _ {K V E : Type 0} (eq : K → K → Bool) where
   -- What a walk has still to do with this table: few lists and few looks, none of these behind a
@@ -192,6 +205,32 @@ module _ {K V E : Type 0} (eq : K → K → Bool) where
       apart = (past_alike eq t.division laws divides there key e rest o.apart.0, o.apart.1);
     }
 
+    -- so where the record is struck by
+    pub orderly_to_strike : (there : K) (found : Stored V) (rest : List (Item K V E)) →
+        Orderly t (plan.Scan there found ∷ rest) → Orderly t (plan.Strike there found ∷ rest)
+    orderly_to_strike there found rest o = record { lists = o.lists; looks = o.looks; early = o.early; apart = o.apart }
+
+    pub orderly_strike : (there : K) (found : Stored V) (rest : List (Item K V E)) → Orderly t (plan.Strike there found ∷ rest) → Orderly t rest
+    orderly_strike there found rest o = record {
+      lists = omega (arith, o.lists);
+      looks = omega (arith, o.looks);
+      early = o.early;
+      apart = o.apart.1;
+    }
+
+    pub orderly_choose : (parts : ℕ) → parts ≤ 64 → Orderly t (plan.Candidates parts ∷ [])
+    orderly_choose parts few = record { lists = omega (arith, few); looks = omega arith; early = refl; apart = tt }
+
+    -- all parts are to be listed, for the predicates that are carried
+    pub orderly_chosen : (parts : ℕ) → Orderly t (plan.Candidates parts ∷ []) →
+        Orderly t (lists_from 0 parts (plan.Retire ∷ []))
+    orderly_chosen parts o = record {
+      lists = omega (arith, o.lists, few_from {K = K} {V = V} {E = E} (plan.Retire ∷ []) 0 parts);
+      looks = omega (arith, no_looks_from {K = K} {V = V} {E = E} (plan.Retire ∷ []) 0 parts refl);
+      early = late_none (lists_from 0 parts (plan.Retire ∷ [])) (no_looks_from (plan.Retire ∷ []) 0 parts refl);
+      apart = apart_from eq t.division (plan.Retire ∷ []) (λ below. tt) tt 0 parts;
+    }
+
     pub orderly_scan : (there : K) (found : Stored V) (rest : List (Item K V E)) → Orderly t (plan.Scan there found ∷ rest) → Orderly t rest
     orderly_scan there found rest o = record {
       lists = omega (arith, o.lists);
@@ -202,8 +241,8 @@ module _ {K V E : Type 0} (eq : K → K → Bool) where
 
     pub orderly_from : Divides eq t.division → Orderly t (walk_from 0 t.division.parts)
     orderly_from divides = record {
-      lists = omega (arith, divides.few, few_from K V E 0 t.division.parts);
-      looks = omega (arith, no_looks_from K V E 0 t.division.parts);
-      early = late_none (walk_from 0 t.division.parts) (no_looks_from K V E 0 t.division.parts);
-      apart = apart_from V E eq t.division 0 t.division.parts;
+      lists = omega (arith, divides.few, few_from {K = K} {V = V} {E = E} (plan.Reply answer.End ∷ []) 0 t.division.parts);
+      looks = omega (arith, no_looks_from {K = K} {V = V} {E = E} (plan.Reply answer.End ∷ []) 0 t.division.parts refl);
+      early = late_none (walk_from 0 t.division.parts) (no_looks_from (plan.Reply answer.End ∷ []) 0 t.division.parts refl);
+      apart = apart_from eq t.division (plan.Reply answer.End ∷ []) (λ below. tt) tt 0 t.division.parts;
     }

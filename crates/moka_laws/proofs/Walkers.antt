@@ -4,8 +4,8 @@ use Rattle.std.specs.Cmp.{IsEquivalence}
 use Rattle.std.specs.Option.{option_map}
 use Rattle.std.proofs.lemmas.Bool.{eqb-true}
 use Rattle.moka_hist.specs.Finite.{put_at}
-use Rattle.moka_hist.specs.State.{Call, Listed, State, TablePart, World, fresh}
-use Rattle.moka_hist.specs.Plan.{Item, Removal, get_plan, insert_plan, is_disabled, iter_plan, load_plan, or_insert_plan, plan_of, seek, under_lock}
+use Rattle.moka_hist.specs.State.{Call, Listed, State, TablePart, World, fresh, Division}
+use Rattle.moka_hist.specs.Plan.{Item, Removal, get_plan, insert_plan, is_disabled, iter_plan, load_plan, or_insert_plan, plan_of, seek, under_lock, lists_from, pending_plan}
 use Rattle.moka_hist.specs.Plan as plan
 use Rattle.moka_hist.specs.Next.{Next, gives, goes, stays}
 use Rattle.moka_hist.specs.Dropping.{dropped}
@@ -40,9 +40,10 @@ use Rattle.moka_laws.proofs.Reached.{fresh_reached, run_reached}
 use Rattle.moka_laws.proofs.Rules.{put_plans}
 use Rattle.moka_laws.proofs.StepCases.{OnStep, step_cases}
 use Rattle.moka_laws.proofs.Steady.{step_calls}
-use Rattle.moka_laws.proofs.WalkPlans.{Apart, BeginsWith, Orderly, orderly_find, orderly_found, orderly_from, orderly_list, orderly_on, orderly_scan}
-use Rattle.moka_laws.proofs.Walks.{Ends, Finds, IsWalk, Lists, Scans, finds_walk, walk_is_walk}
+use Rattle.moka_laws.proofs.WalkPlans.{Apart, BeginsWith, Orderly, orderly_find, orderly_found, orderly_from, orderly_list, orderly_on, orderly_scan, orderly_choose, orderly_chosen, orderly_strike, orderly_to_strike}
+use Rattle.moka_laws.proofs.Walks.{Ends, Finds, IsWalk, Lists, Scans, finds_walk, walk_is_walk, Applies, Applies_first, Chooses, Comes, Comes_not, Comes_on, Comes_to, Ends_first, Ends_turn, Gathers, Hears, IsComing, Posts, Retires, Strikes, Takes_turn, Turns, on_coming, retiring_walk}
 use Rattle.moka_laws.proofs.Weights.{weigh, weigh_call}
+use Rattle.moka_hist.specs.Maintenance.{carrying}
 
 -- ---- what an access does to the lists that are begun
 
@@ -167,7 +168,7 @@ module _ {K V E : Type 0} where
   BegunBy (Some part) (Some c) = (c.mode ≡ mode.Mid) × BeginsWith part c.plan
 
   -- a plan without a list has none begun
-  none_begun : (o : Option ℕ) (c : Call K V E) → ((part : ℕ) → BeginsWith part c.plan → ⊥) → BegunBy o (Some c) → o ≡ None
+  pub none_begun : (o : Option ℕ) (c : Call K V E) → ((part : ℕ) → BeginsWith part c.plan → ⊥) → BegunBy o (Some c) → o ≡ None
   none_begun None c other h = refl
   none_begun (Some part) c other h = absurd (other part h.1)
 
@@ -187,9 +188,10 @@ module _ {K V E : Type 0} where
   calm_begins (_ ∷ rest) none part h = h
 
 module _ {K V E : Type 0} (eq : K → K → Bool) where
-  -- the call doesn't walk, or its walk is orderly
+  -- the call doesn't walk, or its walk is orderly, or it is to come
   abbrev pub GoesWell : TablePart K V → List (Item K V E) → Type 0
-  GoesWell t p = (weigh walking p ≡ 0) ⊎ (IsWalk p × Orderly eq t p)
+  GoesWell t p =
+      (weigh walking p ≡ 0) ⊎ ((IsWalk p × Orderly eq t p) ⊎ ((parts : ℕ) × IsComing parts p × (parts ≡ t.division.parts)))
 
   abbrev pub LeftWell : TablePart K V → Option (Call K V E) → Type 0
   LeftWell t None = Unit {0}
@@ -197,20 +199,40 @@ module _ {K V E : Type 0} (eq : K → K → Bool) where
 
   well_on : (t u : TablePart K V) (p : List (Item K V E)) → u.division ≡ t.division → t.peak ≤ u.peak → GoesWell t p → GoesWell u p
   well_on t u p same more (inl calm) = inl calm
-  well_on t u p same more (inr h) = inr (h.0, orderly_on eq t u p same more h.1)
+  well_on t u p same more (inr (inl h)) = inr (inl (h.0, orderly_on eq t u p same more h.1))
+  well_on t u p same more (inr (inr h)) = inr (inr (h.0, h.1, h.2 ∙ ap (λ (d : Division K). d.parts) (sym same)))
 
   goes_well : (t : TablePart K V) (c : Call K V E) (p : List (Item K V E)) → IsWalk p → Orderly eq t p → LeftWell t (goes c p).left
   goes_well t c p Ends o = tt
-  goes_well t c p (Lists part rest walk) o = inr (Lists part rest walk, o)
-  goes_well t c p (Finds key rest walk) o = inr (Finds key rest walk, o)
-  goes_well t c p (Scans there found rest walk) o = inr (Scans there found rest walk, o)
+  goes_well t c p Retires o = inr (inl (Retires, o))
+  goes_well t c p (Chooses parts) o = inr (inl (Chooses parts, o))
+  goes_well t c p (Lists part rest walk) o = inr (inl (Lists part rest walk, o))
+  goes_well t c p (Finds key rest walk) o = inr (inl (Finds key rest walk, o))
+  goes_well t c p (Scans there found rest walk) o = inr (inl (Scans there found rest walk, o))
+  goes_well t c p (Strikes there found rest walk) o = inr (inl (Strikes there found rest walk, o))
+
+  -- what is to come isn't a walk yet
+  coming_not : (parts : ℕ) (p : List (Item K V E)) → IsComing parts p → IsWalk p → ⊥
+  coming_not parts p Gathers w = elim w [ ]
+  coming_not parts p (Hears number held) w = elim w [ ]
+  coming_not parts p (Posts held) w = elim w [ ]
+  coming_not parts p (Takes_turn held) w = elim w [ ]
+  coming_not parts p (Applies_first held) w = elim w [ ]
+  coming_not parts p (Ends_first held) w = elim w [ ]
+  coming_not parts p Turns w = elim w [ ]
+  coming_not parts p Applies w = elim w [ ]
+  coming_not parts p Ends_turn w = elim w [ ]
 
   pub orderly_apart : (t : TablePart K V) (p : List (Item K V E)) → IsWalk p → GoesWell t p → Apart eq t.division p
   orderly_apart t p Ends h = tt
+  orderly_apart t p Retires h = tt
+  orderly_apart t p (Chooses parts) h = tt
+  orderly_apart t p (Strikes there stored rest walk) (inl calm) = absurd (omega (arith, calm))
   orderly_apart t p (Lists part rest walk) (inl calm) = absurd (omega (arith, calm))
   orderly_apart t p (Finds key rest walk) (inl calm) = absurd (omega (arith, calm))
   orderly_apart t p (Scans there stored rest walk) (inl calm) = absurd (omega (arith, calm))
-  orderly_apart t p walk (inr h) = h.1.apart
+  orderly_apart t p walk (inr (inl h)) = h.1.apart
+  orderly_apart t p walk (inr (inr h)) = absurd (coming_not h.0 p h.1 walk)
 
   calm_well : (t : TablePart K V) (left : Option (Call K V E)) → weigh_call walking left ≡ 0 → LeftWell t left
   calm_well t None h = tt
@@ -241,7 +263,7 @@ module _ {K V E : Type 0} (eq : K → K → Bool) where
     })
     on_walk p e (Lists part rest walk) o = outcomes eq Made w n c (plan.List_keys part) rest (
       λ more. record {
-        left = inr (subst IsWalk (sym e) (Lists part rest walk), subst (Orderly eq _) (sym e) (orderly_on eq w.table _ p refl (omega arith) o));
+        left = inr (inl (subst IsWalk (sym e) (Lists part rest walk), subst (Orderly eq _) (sym e) (orderly_on eq w.table _ p refl (omega arith) o)));
         begun = subst (λ v. BegunBy v (stays c).left)
             (sym (ap (option_map {T = Listed K} (λ l. l.part)) (put_here w.table.listings n _) ∙
             ap Some (begun_named w.table n c part rest e begins (unwrap_or (w.table.listings n) (listed_now w.table part)) (put_here w.table.listings n _))))
@@ -260,23 +282,31 @@ module _ {K V E : Type 0} (eq : K → K → Bool) where
         let none : part_begun w.table n ≡ None = not_begun (plan.Find key) rest e (λ part h. h) in
         outcomes eq Made w n c (plan.Find key) rest (
           λ more. record {
-            left = inr (subst IsWalk (sym e) (Finds key rest walk), subst (Orderly eq _) (sym e) (orderly_on eq w.table _ p refl (omega arith) o));
+            left = inr (inl (subst IsWalk (sym e) (Finds key rest walk), subst (Orderly eq _) (sym e) (orderly_on eq w.table _ p refl (omega arith) o)));
             begun = no_list (stays c).left (part_begun w.table n) none;
           },
           λ gone. record {
             left = goes_well w.table c rest walk (orderly_find eq w.table key rest o);
             begun = no_list (goes c rest).left (part_begun w.table n) none;
           },
-          λ there stored some. record {
-            left = inr (Scans there stored rest walk, orderly_found eq w.table laws divides key there stored rest (under key (there, stored) some) o);
+          λ there stored some free. record {
+            left = inr (inl (Scans there stored rest walk, orderly_found eq w.table laws divides key there stored rest (under key (there, stored) some) o));
             begun = no_list (goes c (plan.Scan there stored ∷ rest)).left (part_begun w.table n) none;
+          },
+          λ there stored ids some is. record {
+            left = inr (inl (
+              Strikes there stored rest walk,
+              orderly_to_strike eq w.table there stored rest
+                  (orderly_found eq w.table laws divides key there stored rest (under key (there, stored) some) o),
+            ));
+            begun = no_list (goes c (plan.Strike there stored ∷ rest)).left (part_begun w.table n) none;
           },
         )
     on_walk p e (Scans there found rest walk) o =
         let none : part_begun w.table n ≡ None = not_begun (plan.Scan there found) rest e (λ part h. h) in
         outcomes eq Made w n c (plan.Scan there found) rest (
           λ seen. record {
-            left = inr (walk, orderly_scan eq w.table there found rest o);
+            left = inr (inl (walk, orderly_scan eq w.table there found rest o));
             begun = no_list (gives c there found.value rest).left (part_begun w.table n) none;
           },
           λ unseen. record {
@@ -284,6 +314,64 @@ module _ {K V E : Type 0} (eq : K → K → Bool) where
             begun = no_list (goes c rest).left (part_begun w.table n) none;
           },
         )
+    on_walk p e Retires o = outcomes eq Made w n c plan.Retire [] (record {
+      left = tt;
+      begun = no_list None (part_begun w.table n) (not_begun plan.Retire [] e (λ part h. h));
+    })
+    on_walk p e (Chooses parts) o =
+        let none : part_begun w.table n ≡ None = not_begun (plan.Candidates parts) [] e (λ part h. h) in
+        outcomes eq Made w n c (plan.Candidates parts) [] (
+          λ over. record { left = tt; begun = no_list None (part_begun w.table n) none },
+          λ id more some. record {
+            left = goes_well w.table (carrying c (id ∷ more)) (lists_from 0 parts (plan.Retire ∷ [])) (retiring_walk parts)
+                (orderly_chosen eq w.table parts o);
+            begun = no_list (goes (carrying c (id ∷ more)) (lists_from 0 parts (plan.Retire ∷ []))).left (part_begun w.table n) none;
+          },
+        )
+    on_walk p e (Strikes there found rest walk) o =
+        let none : part_begun w.table n ≡ None = not_begun (plan.Strike there found) rest e (λ part h. h) in
+        outcomes eq Made w n c (plan.Strike there found) rest (record {
+          left = goes_well w.table (carrying c _) rest walk (orderly_strike eq w.table there found rest o);
+          begun = no_list (goes (carrying c _) rest).left (part_begun w.table n) none;
+        })
+
+    -- maintenance that is to walk lists nothing yet
+    comes_well : (parts : ℕ) (p : List (Item K V E)) → c.plan ≡ p → IsComing parts p → parts ≡ w.table.division.parts → (next : Next K V E) →
+        Comes parts c next → LeftWell w.table next.left
+    comes_well parts p e coming same next (Comes_on rest more) = on more
+      where
+        on : {q : List (Item K V E)} → IsComing parts q → LeftWell w.table (goes c q).left
+        on Gathers = inr (inr (parts, Gathers, same))
+        on (Hears number held) = inr (inr (parts, Hears number held, same))
+        on (Posts held) = inr (inr (parts, Posts held, same))
+        on (Takes_turn held) = inr (inr (parts, Takes_turn held, same))
+        on (Applies_first held) = inr (inr (parts, Applies_first held, same))
+        on (Ends_first held) = inr (inr (parts, Ends_first held, same))
+        on Turns = inr (inr (parts, Turns, same))
+        on Applies = inr (inr (parts, Applies, same))
+        on Ends_turn = inr (inr (parts, Ends_turn, same))
+    comes_well parts p e coming same next Comes_to = inr (inl (Chooses parts, orderly_choose eq w.table parts (omega (arith, same, divides.few))))
+    comes_well parts p e coming same next Comes_not = inr (inr (parts, subst (IsComing parts) (sym e) coming, same))
+
+    coming_begins : (parts : ℕ) (p : List (Item K V E)) → IsComing parts p → (part : ℕ) → BeginsWith part p → ⊥
+    coming_begins parts p Gathers part h = h
+    coming_begins parts p (Hears number held) part h = h
+    coming_begins parts p (Posts held) part h = h
+    coming_begins parts p (Takes_turn held) part h = h
+    coming_begins parts p (Applies_first held) part h = h
+    coming_begins parts p (Ends_first held) part h = h
+    coming_begins parts p Turns part h = h
+    coming_begins parts p Applies part h = h
+    coming_begins parts p Ends_turn part h = h
+
+    on_coming_well : (parts : ℕ) (p : List (Item K V E)) → c.plan ≡ p → IsComing parts p → parts ≡ w.table.division.parts → OnStep eq Made w n c p
+    on_coming_well parts p e coming same =
+        let none : part_begun w.table n ≡ None =
+        none_begun (part_begun w.table n) c (λ part h. coming_begins parts p coming part (subst (BeginsWith part) e h)) begins in
+        on_coming eq Made w n c parts p coming (λ d spares next comes. record {
+          left = comes_well parts p e coming same next comes;
+          begun = no_list next.left (part_begun w.table n) none;
+        })
 
 -- ---- fresh calls
 
@@ -299,7 +387,7 @@ module _ {K V E : Type 0} (eq : K → K → Bool) (t : TablePart K V) where
 
   iter_well : Divides eq t.division → (b : Bool) → GoesWell {E = E} eq t (iter_plan b t.division.parts)
   iter_well divides true = inl refl
-  iter_well divides false = inr (walk_is_walk 0 t.division.parts, orderly_from eq t divides)
+  iter_well divides false = inr (inl (walk_is_walk 0 t.division.parts, orderly_from eq t divides))
 
   fresh_well : Divides eq t.division → (rules : Rules) (s : Start K V) → GoesWell {E = E} eq t (plan_of t.division.parts rules s)
   fresh_well divides rules (start.Get key) = by (is_disabled rules)
@@ -328,6 +416,11 @@ module _ {K V E : Type 0} (eq : K → K → Bool) (t : TablePart K V) where
       by true = inl refl
       by false = inl refl
   fresh_well divides rules start.Iter = iter_well divides (is_disabled rules)
+  fresh_well divides rules start.Pending = by (is_disabled rules)
+    where
+      by : (b : Bool) → GoesWell {E = E} eq t (pending_plan b t.division.parts)
+      by true = inl refl
+      by false = inr (inr (t.division.parts, Gathers, refl))
   fresh_well divides rules _ = inl refl
 
 -- ---- of a state
@@ -344,14 +437,27 @@ module _ {K V E : Type 0} (eq : K → K → Bool) where
     pub begun : (n : ℕ) → BegunBy (part_begun s.world.table n) (s.calls n)
     pub well : (n : ℕ) → LeftWell eq s.world.table (s.calls n)
 
-  no_item_lists : (n : ℕ) (item : Item K V E) → walking item ≡ 0 → ListsKeys (access_for n item) → ⊥
-  no_item_lists n (plan.List_keys part) none h = omega (arith, none)
-  no_item_lists n _ none h = h
+  no_item_lists : (n : ℕ) (ids : Option (List (ℕ × ℕ))) (item : Item K V E) → walking item ≡ 0 → ListsKeys (access_for n ids item) → ⊥
+  no_item_lists n ids (plan.List_keys part) none h = omega (arith, none)
+  no_item_lists n ids _ none h = h
 
-  no_plan_lists : (n : ℕ) (rules : Rules) (how : Mode) (p : List (Item K V E)) (aborts : ℕ) → weigh walking p ≡ 0 →
-      ListsKeys (access_of n (record { rules = rules; mode = how; plan = p; aborts = aborts })) → ⊥
-  no_plan_lists n rules how [] aborts none h = h
-  no_plan_lists n rules how (item ∷ rest) aborts none h = no_item_lists n item (omega (arith, none)) h
+  no_plan_lists : (n : ℕ) (rules : Rules) (how : Mode) (p : List (Item K V E)) (aborts : ℕ) (ids : Option (List (ℕ × ℕ))) → weigh walking p ≡ 0 →
+      ListsKeys (access_of n (record { rules = rules; mode = how; plan = p; aborts = aborts; carried = ids })) → ⊥
+  no_plan_lists n rules how [] aborts ids none h = h
+  no_plan_lists n rules how (item ∷ rest) aborts ids none h = no_item_lists n ids item (omega (arith, none)) h
+
+  -- nor does maintenance before it walks
+  coming_lists : (n parts : ℕ) (rules : Rules) (how : Mode) (p : List (Item K V E)) (aborts : ℕ) (ids : Option (List (ℕ × ℕ))) → IsComing parts p →
+      ListsKeys (access_of n (record { rules = rules; mode = how; plan = p; aborts = aborts; carried = ids })) → ⊥
+  coming_lists n parts rules how p aborts ids Gathers h = h
+  coming_lists n parts rules how p aborts ids (Hears number held) h = h
+  coming_lists n parts rules how p aborts ids (Posts held) h = h
+  coming_lists n parts rules how p aborts ids (Takes_turn held) h = h
+  coming_lists n parts rules how p aborts ids (Applies_first held) h = h
+  coming_lists n parts rules how p aborts ids (Ends_first held) h = h
+  coming_lists n parts rules how p aborts ids Turns h = h
+  coming_lists n parts rules how p aborts ids Applies h = h
+  coming_lists n parts rules how p aborts ids Ends_turn h = h
 
   -- no step changes how the table divides its keys
   pub division_stays : (s t : State K V E) (n : ℕ) (turn : Turn K V E) → Step eq s n turn t → t.world.table.division ≡ s.world.table.division
@@ -379,13 +485,21 @@ module _ {K V E : Type 0} (eq : K → K → Bool) where
             (on_calm eq s.world n step.call step.call.plan refl calm)
             (λ w next h. ap (weigh_call walking) (put_here s.calls n next.left) ∙ h) in
             let none : part_begun t.world.table n ≡ None =
-            let_by.own (no_plan_lists n step.call.rules step.call.mode step.call.plan step.call.aborts calm) ∙
+            let_by.own (no_plan_lists n step.call.rules step.call.mode step.call.plan step.call.aborts step.call.carried calm) ∙
             none_begun (part_begun s.world.table n) step.call (calm_begins step.call.plan calm) begins in
             (calm_well eq t.world.table (t.calls n) left, subst (λ v. BegunBy v (t.calls n)) (sym none) tt)
-        by (inr walk) =
+        by (inr (inl walk)) =
             step_cases eq (Made eq laws s.world n step.call i.divides (under_own_keys eq s i.reached) begins)
             (λ v _. LeftWell eq v.world.table (v.calls n) × BegunBy (part_begun v.world.table n) (v.calls n)) s t n turn step
             (on_walk eq laws s.world n step.call i.divides (under_own_keys eq s i.reached) begins step.call.plan refl walk.0 walk.1)
+            (λ w next m. (
+              subst (LeftWell eq w.table) (sym (put_here s.calls n next.left)) m.left,
+              subst (BegunBy (part_begun w.table n)) (sym (put_here s.calls n next.left)) m.begun,
+            ))
+        by (inr (inr coming)) =
+            step_cases eq (Made eq laws s.world n step.call i.divides (under_own_keys eq s i.reached) begins)
+            (λ v _. LeftWell eq v.world.table (v.calls n) × BegunBy (part_begun v.world.table n) (v.calls n)) s t n turn step
+            (on_coming_well eq laws s.world n step.call i.divides (under_own_keys eq s i.reached) begins coming.0 step.call.plan refl coming.1 coming.2)
             (λ w next m. (
               subst (LeftWell eq w.table) (sym (put_here s.calls n next.left)) m.left,
               subst (BegunBy (part_begun w.table n)) (sym (put_here s.calls n next.left)) m.begun,

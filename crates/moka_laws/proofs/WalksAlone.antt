@@ -44,7 +44,7 @@ use Rattle.moka_laws.proofs.Reached.{event_reached, step_reached}
 use Rattle.moka_laws.proofs.StepCases.{OnStep, step_cases}
 use Rattle.moka_laws.proofs.WalkPlans.{Apart, Past, all_in_turn, parts_differ}
 use Rattle.moka_laws.proofs.Walkers.{AreWalking, BegunBy, begun_named, in_walking, part_begun}
-use Rattle.moka_laws.proofs.Walks.{Ends, Finds, IsWalk, Lists, Scans, finds_walk, walk_is_walk}
+use Rattle.moka_laws.proofs.Walks.{IsShowing, Shows_end, Shows_find, Shows_list, Shows_scan, finds_show, shows_walk, walk_shows}
 use Rattle.moka_laws.proofs.WalksGive.{live_apart}
 use Rattle.moka_laws.proofs.WalksKeep.{and_true, past_part}
 
@@ -67,22 +67,22 @@ module _ {K V E : Type 0} where
   visible_by w k x = is_visible w.desk.rules (times_at w.desk x.stamp x.modified) (is_hit w.desk k x)
 
   -- a walk that goes on leaves the call live with its plan, and one that ends has no more to do
-  goes_going : (c : Call K V E) (p : List (Item K V E)) → IsWalk p → turn.Going ≡ (goes c p).turn →
-      (d : Call K V E) × ((goes c p).left ≡ Some d) × (d.plan ≡ p)
-  goes_going c p Ends e = absurd (never e)
+  goes_going : (c : Call K V E) (p : List (Item K V E)) → IsShowing p → turn.Going ≡ (goes c p).turn →
+      (d : Call K V E) × ((goes c p).left ≡ Some d) × (d.plan ≡ p) × (d.carried ≡ c.carried)
+  goes_going c p Shows_end e = absurd (never e)
     where
       never : turn.Going ≡ (goes c (plan.Reply answer.End ∷ [])).turn → ⊥
       never f = cc
-  goes_going c p (Lists part rest walk) e = (_, refl, refl)
-  goes_going c p (Finds key rest walk) e = (_, refl, refl)
-  goes_going c p (Scans there stored rest walk) e = (_, refl, refl)
+  goes_going c p (Shows_list part rest walk) e = (_, refl, refl, refl)
+  goes_going c p (Shows_find key rest walk) e = (_, refl, refl, refl)
+  goes_going c p (Shows_scan there stored rest walk) e = (_, refl, refl, refl)
 
   -- a walk gives no record as it goes on
-  goes_silent : (c : Call K V E) (p : List (Item K V E)) → IsWalk p → (key : K) (value : V) → turn.Item key value ≡ (goes c p).turn → ⊥
-  goes_silent c p Ends key value e = cc
-  goes_silent c p (Lists part rest walk) key value e = cc
-  goes_silent c p (Finds other rest walk) key value e = cc
-  goes_silent c p (Scans there stored rest walk) key value e = cc
+  goes_silent : (c : Call K V E) (p : List (Item K V E)) → IsShowing p → (key : K) (value : V) → turn.Item key value ≡ (goes c p).turn → ⊥
+  goes_silent c p Shows_end key value e = cc
+  goes_silent c p (Shows_list part rest walk) key value e = cc
+  goes_silent c p (Shows_find other rest walk) key value e = cc
+  goes_silent c p (Shows_scan there stored rest walk) key value e = cc
 
   same_given : (a b : K) (x y : V) → ◌≡◌ {A = Turn K V E} (turn.Item a x) (turn.Item b y) → (a ≡ b) × (x ≡ y)
   same_given a b x y e = (cc, cc)
@@ -177,6 +177,8 @@ module _ {K V E : Type 0} (eq : K → K → Bool) (laws : IsEquivalence eq) (s :
       apart false f = refl
       apart true f = absurd (false≢true (sym past.0 ∙ laws.congr a q there f ∙ laws.symm q there ∙ e))
   past_comes a q (plan.Scan there stored ∷ rest) past (inr h) = past_comes a q rest past.1 h
+  past_comes a q (plan.Candidates parts ∷ rest) past h = absurd past
+  past_comes a q (plan.Strike there stored ∷ rest) past h = past_comes a q rest past.1 h
   past_comes a q (_ ∷ rest) past h = past_comes a q rest past h
 
   -- ---- what stays the same
@@ -190,7 +192,8 @@ module _ {K V E : Type 0} (eq : K → K → Bool) (laws : IsEquivalence eq) (s :
   record Walking (v : State K V E) (c : Call K V E) : Type 0 where
     reached : IsReached eq v
     live : v.calls n ≡ Some c
-    walk : IsWalk c.plan
+    walk : IsShowing c.plan
+    free : c.carried ≡ None
     stand : Stand c.plan
     same : Same v.world
 
@@ -206,10 +209,10 @@ module _ {K V E : Type 0} (eq : K → K → Bool) (laws : IsEquivalence eq) (s :
   -- the plan that the walk goes on with comes to what the one before came to, as far as that is
   -- visible, and to nothing else
   data After (c : Call K V E) (p : List (Item K V E)) (new : World K V E) : Next K V E → Type 0 where
-    On : (q : List (Item K V E)) → IsWalk q → Stand q → ((k : K) → IsSeen k → Comes k p → Comes k q) → ((k : K) → Comes k q → Comes k p) →
+    On : (q : List (Item K V E)) → IsShowing q → Stand q → ((k : K) → IsSeen k → Comes k p → Comes k q) → ((k : K) → Comes k q → Comes k p) →
         Same new → After c p new (goes c q)
     Still : Same new → After c p new (stays c)
-    Gave : (there : K) (stored : Stored V) (rest : List (Item K V E)) → p ≡ plan.Scan there stored ∷ rest → IsWalk rest → Stand rest →
+    Gave : (there : K) (stored : Stored V) (rest : List (Item K V E)) → p ≡ plan.Scan there stored ∷ rest → IsShowing rest → Stand rest →
         s.world.table.stored there ≡ Some (there, stored) → is_visible_in s there stored ≡ true → Same new → After c p new (gives c there stored.value rest)
     Over : ((k : K) → Comes k p → ⊥) → After c p new (answers answer.End)
 
@@ -238,11 +241,11 @@ module _ {K V E : Type 0} (eq : K → K → Bool) (laws : IsEquivalence eq) (s :
     own_key : (k : K) (pair : K × Stored V) → v.world.table.stored k ≡ Some pair → eq pair.0 k ≡ true
     own_key = under_own_keys eq v i.reached
 
-    on_step : (p : List (Item K V E)) → c.plan ≡ p → IsWalk p → Stand p → OnStep eq (After c p) v.world n c p
-    on_step p e Ends stand = outcomes eq (After c p) v.world n c (plan.Reply answer.End) [] (Over (λ k h. h))
-    on_step p e (Lists part rest walk) stand = outcomes eq (After c p) v.world n c (plan.List_keys part) rest (
+    on_step : (p : List (Item K V E)) → c.plan ≡ p → IsShowing p → Stand p → OnStep eq (After c p) v.world n c p
+    on_step p e Shows_end stand = outcomes eq (After c p) v.world n c (plan.Reply answer.End) [] (Over (λ k h. h))
+    on_step p e (Shows_list part rest walk) stand = outcomes eq (After c p) v.world n c (plan.List_keys part) rest (
       λ more. Still (record { stored = i.same.stored; division = i.same.division; seen = i.same.seen; lists = begun_list part }),
-      λ listed keys is gives. On (map plan.Find keys ++ rest) (finds_walk keys rest walk) (stand_finds keys rest stand)
+      λ listed keys is gives. On (map plan.Find keys ++ rest) (finds_show keys rest walk) (stand_finds keys rest stand)
           (λ k seen. forward listed keys is gives.whole k seen)
           (λ k. comes_back k part keys rest (of_part listed keys is gives))
           (record {
@@ -268,14 +271,15 @@ module _ {K V E : Type 0} (eq : K → K → Bool) (laws : IsEquivalence eq) (s :
             subst (λ (d : Division K). AllByRecursion (λ k. d.part_of k ≡ part) keys) i.same.division
             (subst (λ x. AllByRecursion (λ k. v.world.table.division.part_of k ≡ x) keys) (begun_named v.world.table n c part rest e begins listed is)
             (all_in_turn _ keys gives.of_part))
-    on_step p e (Finds other rest walk) stand = outcomes eq (After c p) v.world n c (plan.Find other) rest (
+    on_step p e (Shows_find other rest walk) stand = outcomes eq (After c p) v.world n c (plan.Find other) rest (
       λ more. Still (record { stored = i.same.stored; division = i.same.division; seen = i.same.seen; lists = i.same.lists }),
       λ none. On rest walk stand (gone (stood_here other None none)) (λ k h. inr h)
           (record { stored = i.same.stored; division = i.same.division; seen = i.same.seen; lists = i.same.lists }),
-      λ there stored some. On (plan.Scan there stored ∷ rest) (Scans there stored rest walk)
+      λ there stored some free. On (plan.Scan there stored ∷ rest) (Shows_scan there stored rest walk)
           (alike there other (own_key other (there, stored) some) ∙ stood_here other (Some (there, stored)) some, stand)
           (found there (own_key other (there, stored) some)) (found_back there (own_key other (there, stored) some))
           (record { stored = i.same.stored; division = i.same.division; seen = i.same.seen; lists = i.same.lists }),
+      λ there stored ids some is. absurd (none_some (sym i.free ∙ is)),
     )
       where
         gone : s.world.table.stored other ≡ None → (k : K) → IsSeen k → (eq other k ≡ true) ⊎ Comes k rest → Comes k rest
@@ -289,7 +293,7 @@ module _ {K V E : Type 0} (eq : K → K → Bool) (laws : IsEquivalence eq) (s :
         found_back : (there : K) → eq there other ≡ true → (k : K) → (eq there k ≡ true) ⊎ Comes k rest → (eq other k ≡ true) ⊎ Comes k rest
         found_back there own k (inl f) = inl (through other there k (laws.symm other there ∙ own) f)
         found_back there own k (inr h) = inr h
-    on_step p e (Scans there stored rest walk) stand = outcomes eq (After c p) v.world n c (plan.Scan there stored) rest (
+    on_step p e (Shows_scan there stored rest walk) stand = outcomes eq (After c p) v.world n c (plan.Scan there stored) rest (
       λ seen. Gave there stored rest refl walk stand.1 stand.0 (sym (i.same.seen there stored) ∙ seen)
           (record { stored = i.same.stored; division = i.same.division; seen = i.same.seen; lists = i.same.lists }),
       λ unseen. On rest walk stand.1 (hidden (sym (i.same.seen there stored) ∙ unseen)) (λ k h. inr h)
@@ -319,11 +323,12 @@ module _ {K V E : Type 0} (eq : K → K → Bool) (laws : IsEquivalence eq) (s :
 
     -- the walk goes on from there
     goes_walking : (t : State K V E) (reply : Turn K V E) → Step eq v n reply t → (w : World K V E) (next : Next K V E) → t ≡ state_after v n w next →
-        Same w → (d : Call K V E) → next.left ≡ Some d → IsWalk d.plan → Stand d.plan → Walking t d
-    goes_walking t reply st w next is same d left walk stand = record {
+        Same w → (d : Call K V E) → next.left ≡ Some d → IsShowing d.plan → d.carried ≡ None → Stand d.plan → Walking t d
+    goes_walking t reply st w next is same d left walk free stand = record {
       reached = step_reached eq v t n reply i.reached st;
       live = ap (λ (u : State K V E). u.calls n) is ∙ put_here v.calls n next.left ∙ left;
       walk = walk;
+      free = free;
       stand = stand;
       same = subst (λ (u : State K V E). Same u.world) (sym is) same;
     }
@@ -403,6 +408,7 @@ module _ {K V E : Type 0} (eq : K → K → Bool) (laws : IsEquivalence eq) (s :
       reached = h;
       live = i.live;
       walk = i.walk;
+      free = i.free;
       stand = i.stand;
       same = record {
         stored = i.same.stored;
@@ -415,6 +421,7 @@ module _ {K V E : Type 0} (eq : K → K → Bool) (laws : IsEquivalence eq) (s :
       reached = h;
       live = i.live;
       walk = i.walk;
+      free = i.free;
       stand = i.stand;
       same = record {
         stored = i.same.stored;
@@ -427,6 +434,7 @@ module _ {K V E : Type 0} (eq : K → K → Bool) (laws : IsEquivalence eq) (s :
       reached = h;
       live = i.live;
       walk = i.walk;
+      free = i.free;
       stand = i.stand;
       same = record {
         stored = i.same.stored;
@@ -442,6 +450,7 @@ module _ {K V E : Type 0} (eq : K → K → Bool) (laws : IsEquivalence eq) (s :
       reached = subst (IsReached eq) drop.after h;
       live = put_there v.calls m None n (differ m n other) ∙ i.live;
       walk = i.walk;
+      free = i.free;
       stand = i.stand;
       same = record { stored = i.same.stored; division = i.same.division; seen = i.same.seen; lists = i.same.lists };
     }) drop
@@ -456,6 +465,7 @@ module _ {K V E : Type 0} (eq : K → K → Bool) (laws : IsEquivalence eq) (s :
           reached = subst (IsReached eq) b.after (event_reached eq v t (event.Start begin) r i.reached h);
           live = put_there v.calls (v.world.desk.last + 1) _ n (differ (v.world.desk.last + 1) n (λ e. omega (arith, e, born))) ∙ i.live;
           walk = i.walk;
+          free = i.free;
           stand = i.stand;
           same = record { stored = i.same.stored; division = i.same.division; seen = i.same.seen; lists = i.same.lists };
         }) b) h
@@ -478,7 +488,7 @@ module _ {K V E : Type 0} (eq : K → K → Bool) (laws : IsEquivalence eq) (s :
   past_rest v c i there stored rest e =
       let apart : Apart eq s.world.table.division (plan.Scan there stored ∷ rest) =
       subst (λ d. Apart eq d (plan.Scan there stored ∷ rest)) i.same.division
-      (subst (Apart eq v.world.table.division) e (live_apart eq laws v n c i.reached i.live i.walk)) in
+      (subst (Apart eq v.world.table.division) e (live_apart eq laws v n c i.reached i.live (shows_walk c.plan i.walk))) in
       apart.0
 
   module _ (v t : State K V E) (c : Call K V E) (i : Walking v c) where
@@ -486,11 +496,11 @@ module _ {K V E : Type 0} (eq : K → K → Bool) (laws : IsEquivalence eq) (s :
     ended : (w : World K V E) (next : Next K V E) → After c c.plan w next → turn.Answer answer.End ≡ next.turn → Shown c.plan []
     ended w next (On q walk stand forward back same) e = nothing_shown c.plan (λ k seen h. over q walk e k (forward k seen h))
       where
-        over : (p : List (Item K V E)) → IsWalk p → turn.Answer answer.End ≡ (goes c p).turn → (k : K) → Comes k p → ⊥
-        over p Ends f k h = h
-        over p (Lists part rest more) f k h = cc
-        over p (Finds key rest more) f k h = cc
-        over p (Scans there stored rest more) f k h = cc
+        over : (p : List (Item K V E)) → IsShowing p → turn.Answer answer.End ≡ (goes c p).turn → (k : K) → Comes k p → ⊥
+        over p Shows_end f k h = h
+        over p (Shows_list part rest more) f k h = cc
+        over p (Shows_find key rest more) f k h = cc
+        over p (Shows_scan there stored rest more) f k h = cc
     ended w next (Still same) e = absurd (never e)
       where
         never : turn.Answer answer.End ≡ (stays c).turn → ⊥
@@ -508,9 +518,9 @@ module _ {K V E : Type 0} (eq : K → K → Bool) (laws : IsEquivalence eq) (s :
         let g = goes_going c q walk e in
         more_shown c.plan q items forward back
         (subst (λ p. Shown p items) g.2
-        (on g.0 (goes_walking v c i t turn.Going st w next is same g.0 g.1 (subst IsWalk (sym g.2) walk) (subst Stand (sym g.2) stand))))
+        (on g.0 (goes_walking v c i t turn.Going st w next is same g.0 g.1 (subst IsShowing (sym g.2) walk) (g.3 ∙ i.free) (subst Stand (sym g.2) stand))))
     went items st on w next (Still same) is e =
-        on (record c { mode = mode.Mid }) (goes_walking v c i t turn.Going st w next is same (record c { mode = mode.Mid }) refl i.walk i.stand)
+        on (record c { mode = mode.Mid }) (goes_walking v c i t turn.Going st w next is same (record c { mode = mode.Mid }) refl i.walk i.free i.stand)
     went items st on w next (Gave there stored rest f walk stand stood visible same) is e = absurd (never e)
       where
         never : turn.Going ≡ (gives c there stored.value rest).turn → ⊥
@@ -536,7 +546,7 @@ module _ {K V E : Type 0} (eq : K → K → Bool) (laws : IsEquivalence eq) (s :
         (subst (λ k. Shown (plan.Scan there stored ∷ rest) ((k, value) ∷ items)) (sym item.0)
         (subst (λ x. Shown (plan.Scan there stored ∷ rest) ((there, x) ∷ items)) (sym item.1)
         (given_shown there stored rest items stood visible (past_rest v c i there stored rest f)
-        (on d (goes_walking v c i t (turn.Item key value) st w next is same d refl walk stand)))))
+        (on d (goes_walking v c i t (turn.Item key value) st w next is same d refl walk i.free stand)))))
     gave key value items st on w next (Over free) is e = absurd (never e)
       where
         never : ◌≡◌ {A = Turn K V E} (turn.Item key value) (turn.Answer answer.End) → ⊥
@@ -591,7 +601,8 @@ module _ {K V E : Type 0} (eq : K → K → Bool) (laws : IsEquivalence eq) wher
       begins = record {
         reached = h;
         live = live;
-        walk = subst IsWalk (sym plan_is) (walk_is_walk 0 s.world.table.division.parts);
+        walk = subst IsShowing (sym plan_is) (walk_shows 0 s.world.table.division.parts);
+        free = refl;
         stand = subst (Stand eq laws s n h) (sym plan_is) (stand_from eq laws s n h 0 s.world.table.division.parts);
         same = record {
           stored = refl;

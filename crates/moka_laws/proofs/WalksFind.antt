@@ -3,7 +3,7 @@ use Rattle.std.proofs.Common.{◌≡◌, ℕ, ◌+◌, ◌==◌, Bool, true, fal
 use Rattle.std.specs.Cmp.{IsEquivalence}
 use Rattle.std.proofs.lemmas.Bool.{eqb-true}
 use Rattle.moka_hist.specs.Next.{Next, goes}
-use Rattle.moka_hist.specs.Plan.{Item}
+use Rattle.moka_hist.specs.Plan.{Item, lists_from}
 use Rattle.moka_hist.specs.Plan as plan
 use Rattle.moka_hist.specs.Run.{IsReached, started}
 use Rattle.moka_hist.specs.State.{Call, State, World, fresh}
@@ -28,8 +28,9 @@ use Rattle.moka_laws.proofs.Rules.{IsFresh, Disabled, Walks_over, fresh_plan}
 use Rattle.moka_laws.proofs.WalkPlans.{look_of, no_looks_from}
 use Rattle.moka_laws.proofs.Walkers.{GoesWell, LeftWell, in_walking}
 use Rattle.moka_laws.proofs.WalksGive.{items_walk, scans_show}
-use Rattle.moka_laws.proofs.Walks.{Ends, Finds, IsWalk, Lists, Scans}
+use Rattle.moka_laws.proofs.Walks.{Ends, Finds, IsWalk, Lists, Scans, Applies, Applies_first, Chooses, Comes, Comes_not, Comes_on, Comes_to, Ends_first, Ends_turn, Gathers, Hears, IsComing, Posts, Retires, Strikes, Takes_turn, Turns, on_coming}
 use Rattle.moka_laws.proofs.Weights.{weigh, weigh_call}
+use Rattle.moka_hist.specs.Maintenance.{carrying}
 
 module _ {K V E : Type 0} (eq : K → K → Bool) where
   -- the walk's own look has found the record that it is to judge
@@ -81,7 +82,7 @@ module _ {K V E : Type 0} (eq : K → K → Bool) where
   unlooked_found s n (_ ∷ rest) h = unlooked_found s n rest (omega (arith, h))
 
   fresh_looks : (rules : Rules) (p : List (Item K V E)) → IsFresh rules p → weigh look_of p ≡ 0
-  fresh_looks rules p (Walks_over parts able) = no_looks_from K V E 0 parts
+  fresh_looks rules p (Walks_over parts able) = no_looks_from _ 0 parts refl
   fresh_looks rules p (Disabled a d plain) = refl
   fresh_looks rules p _ = refl
 
@@ -121,7 +122,7 @@ module _ {K V E : Type 0} (eq : K → K → Bool) where
       outcomes eq (λ (new : World K V E) (next : Next K V E). FindsOrHas s n c next.left) s.world n c (plan.Find listed) rest (
         λ more. inl (subst (AllFound s n) (sym e) h),
         λ none. inl (goes_found s n c rest h),
-        λ there stored some. inr (record {
+        λ there stored some none. inr (record {
           listed = listed;
           there = there;
           stored = stored;
@@ -133,12 +134,41 @@ module _ {K V E : Type 0} (eq : K → K → Bool) where
           judges = refl;
           others = h;
         }),
+        λ there stored ids some is. inl h,
       )
   walk_finds s n c p e (Scans there stored rest walk) h =
       outcomes eq (λ (new : World K V E) (next : Next K V E). FindsOrHas s n c next.left) s.world n c (plan.Scan there stored) rest (
         λ seen. inl h.1,
         λ unseen. inl (goes_found s n c rest h.1),
       )
+  walk_finds s n c p e Retires h =
+      outcomes eq (λ (new : World K V E) (next : Next K V E). FindsOrHas s n c next.left) s.world n c plan.Retire [] (inl tt)
+  walk_finds s n c p e (Chooses parts) h =
+      outcomes eq (λ (new : World K V E) (next : Next K V E). FindsOrHas s n c next.left) s.world n c (plan.Candidates parts) [] (
+        λ none. inl tt,
+        λ id more some. inl (goes_found s n (carrying c (id ∷ more)) (lists_from 0 parts (plan.Retire ∷ []))
+            (unlooked_found s n (lists_from 0 parts (plan.Retire ∷ [])) (no_looks_from (plan.Retire ∷ []) 0 parts refl))),
+      )
+  walk_finds s n c p e (Strikes there stored rest walk) h =
+      outcomes eq (λ (new : World K V E) (next : Next K V E). FindsOrHas s n c next.left) s.world n c (plan.Strike there stored) rest
+      (inl (goes_found s n (carrying c _) rest h))
+
+  -- maintenance that is to walk has nothing to judge
+  coming_found : (s : State K V E) (n parts : ℕ) (p : List (Item K V E)) → IsComing parts p → AllFound s n p
+  coming_found s n parts p Gathers = tt
+  coming_found s n parts p (Hears number held) = tt
+  coming_found s n parts p (Posts held) = tt
+  coming_found s n parts p (Takes_turn held) = tt
+  coming_found s n parts p (Applies_first held) = tt
+  coming_found s n parts p (Ends_first held) = tt
+  coming_found s n parts p Turns = tt
+  coming_found s n parts p Applies = tt
+  coming_found s n parts p Ends_turn = tt
+
+  comes_found : (s : State K V E) (n parts : ℕ) (c : Call K V E) → AllFound s n c.plan → (next : Next K V E) → Comes parts c next → FoundIf s n next.left
+  comes_found s n parts c was next (Comes_on rest coming) = goes_found s n c rest (coming_found s n parts rest coming)
+  comes_found s n parts c was next Comes_to = tt
+  comes_found s n parts c was next Comes_not = was
 
   -- ---- of a state
 
@@ -162,9 +192,14 @@ module _ {K V E : Type 0} (eq : K → K → Bool) where
             (step_cases eq (λ new next. weigh_call walking next.left ≡ 0) (λ v _. weigh_call walking (v.calls n) ≡ 0) s t n turn step
             (on_calm eq s.world n step.call step.call.plan refl calm)
             (λ w next h. ap (weigh_call walking) (put_here s.calls n next.left) ∙ h)))
-        by (inr walk) =
+        by (inr (inl walk)) =
             step_cases eq (λ new next. FindsOrHas s n step.call next.left) (λ v _. FindsOrHas s n step.call (v.calls n)) s t n turn step
             (walk_finds s n step.call step.call.plan refl walk.0 was)
+            (λ w next h. subst (FindsOrHas s n step.call) (sym (put_here s.calls n next.left)) h)
+        by (inr (inr coming)) =
+            step_cases eq (λ new next. FindsOrHas s n step.call next.left) (λ v _. FindsOrHas s n step.call (v.calls n)) s t n turn step
+            (on_coming eq (λ new next. FindsOrHas s n step.call next.left) s.world n step.call coming.0 step.call.plan coming.1
+            (λ d spares next comes. inl (comes_found s n coming.0 step.call was next comes)))
             (λ w next h. subst (FindsOrHas s n step.call) (sym (put_here s.calls n next.left)) h)
 
         now : FindsOrHas s n step.call (t.calls n) → FoundIf t n (t.calls n)

@@ -27,10 +27,11 @@ use Rattle.moka_laws.proofs.OwnKeysKept.{under_own_keys}
 use Rattle.moka_laws.proofs.Reached.{run_reached, step_reached}
 use Rattle.moka_laws.proofs.StepCases.{OnStep, by_plan, step_cases}
 use Rattle.moka_laws.proofs.Steady.{step_calls, step_last}
-use Rattle.moka_laws.proofs.WalkPlans.{Apart, Past, all_in_turn, parts_differ, past_finds}
+use Rattle.moka_laws.proofs.WalkPlans.{Apart, Past, all_in_turn, parts_differ, past_finds, look_of}
 use Rattle.moka_laws.proofs.Walkers.{AreWalking, BegunBy, GoesWell, LeftWell, begun_named, division_stays, in_walking, orderly_apart, part_begun}
-use Rattle.moka_laws.proofs.Walks.{Ends, Finds, IsWalk, Lists, Scans}
+use Rattle.moka_laws.proofs.Walks.{Ends, Finds, IsWalk, Lists, Scans, Applies, Applies_first, Chooses, Ends_first, Ends_turn, Gathers, Hears, IsComing, Posts, Retires, Strikes, Takes_turn, Turns}
 use Rattle.moka_laws.proofs.Weights.{weigh, weigh_call}
+use Rattle.moka_hist.specs.Maintenance.{carrying}
 
 -- ---- of any world
 
@@ -75,10 +76,10 @@ module _ {K V E : Type 0} (eq : K → K → Bool) where
           ((there : K) (stored : Stored V) (rest : List (Item K V E)) → c.plan ≡ plan.Scan there stored ∷ rest → ⊥) →
           (walks c.plan ≡ true) × ((stored : Stored V) × IsToJudge c key stored × (stored.value ≡ value))
       by (inr other) = absurd (by_plan eq (λ (v : World K V E) (next : Next K V E). (k : K) (x : V) → next.turn ≡ turn.Item k x → ⊥)
-          w n c.rules c.mode c.plan c.aborts given new gets (on_silent eq w n c c.plan other) key value is)
+          w n c.rules c.mode c.plan c.aborts c.carried given new gets (on_silent eq w n c c.plan other) key value is)
       by (inl j) =
           let f = by_plan eq (λ (v : World K V E) (next : Next K V E). (k : K) (x : V) → next.turn ≡ turn.Item k x → (j.0 ≡ k) × (j.1.value ≡ x))
-          w n c.rules c.mode c.plan c.aborts given new gets (scan_cases w n c c.plan j.0 j.1 j.2 j.3) key value is in
+          w n c.rules c.mode c.plan c.aborts c.carried given new gets (scan_cases w n c c.plan j.0 j.1 j.2 j.3) key value is in
           (walked j.0 j.1 j.2 j.3, (j.1, (j.2, subst (λ k. c.plan ≡ plan.Scan k j.1 ∷ j.2) f.0 j.3), f.1))
 
   pub scans_show : ScansShow K V E eq
@@ -115,6 +116,8 @@ module _ {K V E : Type 0} (eq : K → K → Bool) where
         ((q : K) (pair : K × Stored V) → w.table.stored q ≡ Some pair → eq pair.0 q ≡ true) →
         BegunBy (part_begun w.table n) (Some c) → (p : List (Item K V E)) → c.plan ≡ p → IsWalk p → P w.table.division p →
         OnStep eq (λ (new : World K V E) (next : Next K V E). PlanIf (P w.table.division) next.left) w n c p
+    -- maintenance that is to walk has none
+    pub coming : (division : Division K) (parts : ℕ) (p : List (Item K V E)) → IsComing parts p → P division p → ⊥
 
 module _ {K V E : Type 0} (eq : K → K → Bool) (laws : IsEquivalence eq) (P : Division K → List (Item K V E) → Type 0) (keeps : IsPlanKept eq P) where
   calm_if : (division : Division K) (left : Option (Call K V E)) → weigh_call walking left ≡ 0 → PlanIf eq (P division) left
@@ -142,7 +145,8 @@ module _ {K V E : Type 0} (eq : K → K → Bool) (laws : IsEquivalence eq) (P :
             (on_calm eq s.world n step.call step.call.plan refl calm)
             (λ w next h. subst (PlanIf eq (P s.world.table.division)) (sym (put_here s.calls n next.left))
             (calm_if s.world.table.division next.left h))
-        by (inr walk) a =
+        by (inr (inr coming)) a = absurd (keeps.coming s.world.table.division coming.0 step.call.plan coming.1 now)
+        by (inr (inl walk)) a =
             step_cases eq (λ new next. PlanIf eq (P s.world.table.division) next.left) (λ v _. PlanIf eq (P s.world.table.division) (v.calls n)) s t n turn step
             (keeps.walk s.world n step.call a.divides (under_own_keys eq s i.reached) (subst (BegunBy (part_begun s.world.table n)) step.live (a.begun n))
             step.call.plan refl walk.0 now)
@@ -196,6 +200,8 @@ module _ {K V E : Type 0} (eq : K → K → Bool) where
   past_calm division key (plan.List_keys part ∷ rest) h = absurd (omega (arith, h))
   past_calm division key (plan.Find other ∷ rest) h = absurd (omega (arith, h))
   past_calm division key (plan.Scan there stored ∷ rest) h = absurd (omega (arith, h))
+  past_calm division key (plan.Candidates parts ∷ rest) h = absurd (omega (arith, h))
+  past_calm division key (plan.Strike there stored ∷ rest) h = absurd (omega (arith, h))
   past_calm division key (_ ∷ rest) h = past_calm division key rest (omega (arith, h))
 
   -- The walk looks up no key that equals this one, and all parts that it has still to list are past
@@ -203,6 +209,7 @@ module _ {K V E : Type 0} (eq : K → K → Bool) where
   abbrev LooksPast : Division K → K → List (Item K V E) → Type 0
   LooksPast division key [] = Unit {0}
   LooksPast division key (plan.List_keys q ∷ rest) = (division.part_of key < q) × LooksPast division key rest
+  LooksPast division key (plan.Candidates parts ∷ rest) = ⊥
   LooksPast division key (plan.Find other ∷ rest) = (eq key other ≡ false) × LooksPast division key rest
   LooksPast division key (_ ∷ rest) = LooksPast division key rest
 
@@ -210,6 +217,7 @@ module _ {K V E : Type 0} (eq : K → K → Bool) where
   looks_calm division key [] h = tt
   looks_calm division key (plan.List_keys part ∷ rest) h = absurd (omega (arith, h))
   looks_calm division key (plan.Find other ∷ rest) h = absurd (omega (arith, h))
+  looks_calm division key (plan.Candidates parts ∷ rest) h = absurd (omega (arith, h))
   looks_calm division key (_ ∷ rest) h = looks_calm division key rest (omega (arith, h))
 
   past_looks : (division : Division K) (key : K) (p : List (Item K V E)) → Past eq division key p → LooksPast division key p
@@ -217,6 +225,8 @@ module _ {K V E : Type 0} (eq : K → K → Bool) where
   past_looks division key (plan.List_keys part ∷ rest) h = (h.0, past_looks division key rest h.1)
   past_looks division key (plan.Find other ∷ rest) h = (h.0, past_looks division key rest h.1)
   past_looks division key (plan.Scan there stored ∷ rest) h = past_looks division key rest h.1
+  past_looks division key (plan.Candidates parts ∷ rest) h = absurd h
+  past_looks division key (plan.Strike there stored ∷ rest) h = past_looks division key rest h.1
   past_looks division key (_ ∷ rest) h = past_looks division key rest h
 
   looks_finds : (division : Division K) (key : K) (keys : List K) (rest : List (Item K V E)) → AllByRecursion (λ q. eq key q ≡ false) keys →
@@ -268,12 +278,17 @@ module _ {K V E : Type 0} (eq : K → K → Bool) (laws : IsEquivalence eq) (key
     walk_past p e (Finds listed rest walk) h = outcomes eq After w n c (plan.Find listed) rest (
       λ more. subst (Past eq w.table.division key) (sym e) h,
       λ none. goes_planned eq (Past eq w.table.division key) c rest h.1,
-      λ there stored some. (other_there listed there h.0 (under listed (there, stored) some), h.1),
+      λ there stored some none. (other_there listed there h.0 (under listed (there, stored) some), h.1),
+      λ there stored ids some is. (other_there listed there h.0 (under listed (there, stored) some), h.1),
     )
     walk_past p e (Scans there stored rest walk) h = outcomes eq After w n c (plan.Scan there stored) rest (
       λ seen. h.1,
       λ unseen. goes_planned eq (Past eq w.table.division key) c rest h.1,
     )
+    walk_past p e Retires h = outcomes eq After w n c plan.Retire [] tt
+    walk_past p e (Chooses parts) h = absurd h
+    walk_past p e (Strikes there stored rest walk) h = outcomes eq After w n c (plan.Strike there stored) rest
+        (goes_planned eq (Past eq w.table.division key) (carrying c _) rest h.1)
 
     abbrev AfterLook : World K V E → Next K V E → Type 0
     AfterLook new next = PlanIf eq (LooksPast eq w.table.division key) next.left
@@ -288,18 +303,45 @@ module _ {K V E : Type 0} (eq : K → K → Bool) (laws : IsEquivalence eq) (key
     walk_looks p e (Finds listed rest walk) h = outcomes eq AfterLook w n c (plan.Find listed) rest (
       λ more. subst (LooksPast eq w.table.division key) (sym e) h,
       λ none. goes_planned eq (LooksPast eq w.table.division key) c rest h.1,
-      λ there stored some. h.1,
+      λ there stored some none. h.1,
+      λ there stored ids some is. h.1,
     )
     walk_looks p e (Scans there stored rest walk) h = outcomes eq AfterLook w n c (plan.Scan there stored) rest (
       λ seen. h,
       λ unseen. goes_planned eq (LooksPast eq w.table.division key) c rest h,
     )
+    walk_looks p e Retires h = outcomes eq AfterLook w n c plan.Retire [] tt
+    walk_looks p e (Chooses parts) h = absurd h
+    walk_looks p e (Strikes there stored rest walk) h = outcomes eq AfterLook w n c (plan.Strike there stored) rest
+        (goes_planned eq (LooksPast eq w.table.division key) (carrying c _) rest h)
+
+  coming_past : (division : Division K) (parts : ℕ) (p : List (Item K V E)) → IsComing parts p → Past eq division key p → ⊥
+  coming_past division parts p Gathers h = h
+  coming_past division parts p (Hears number held) h = h
+  coming_past division parts p (Posts held) h = h
+  coming_past division parts p (Takes_turn held) h = h
+  coming_past division parts p (Applies_first held) h = h
+  coming_past division parts p (Ends_first held) h = h
+  coming_past division parts p Turns h = h
+  coming_past division parts p Applies h = h
+  coming_past division parts p Ends_turn h = h
+
+  coming_looks : (division : Division K) (parts : ℕ) (p : List (Item K V E)) → IsComing parts p → LooksPast eq division key p → ⊥
+  coming_looks division parts p Gathers h = h
+  coming_looks division parts p (Hears number held) h = h
+  coming_looks division parts p (Posts held) h = h
+  coming_looks division parts p (Takes_turn held) h = h
+  coming_looks division parts p (Applies_first held) h = h
+  coming_looks division parts p (Ends_first held) h = h
+  coming_looks division parts p Turns h = h
+  coming_looks division parts p Applies h = h
+  coming_looks division parts p Ends_turn h = h
 
   past_kept : IsPlanKept {K = K} {V = V} {E = E} eq (λ division p. Past eq division key p)
-  past_kept = record { calm = λ division p h. past_calm eq division key p h; walk = walk_past }
+  past_kept = record { calm = λ division p h. past_calm eq division key p h; walk = walk_past; coming = coming_past }
 
   looks_kept : IsPlanKept {K = K} {V = V} {E = E} eq (λ division p. LooksPast eq division key p)
-  looks_kept = record { calm = λ division p h. looks_calm eq division key p h; walk = walk_looks }
+  looks_kept = record { calm = λ division p h. looks_calm eq division key p h; walk = walk_looks; coming = coming_looks }
 
 module _ {K V E : Type 0} (eq : K → K → Bool) (laws : IsEquivalence eq) where
   -- a plan of a live call comes to no key twice
@@ -307,19 +349,32 @@ module _ {K V E : Type 0} (eq : K → K → Bool) (laws : IsEquivalence eq) wher
   live_apart s n c h live walk =
       orderly_apart eq s.world.table c.plan walk (subst (LeftWell eq s.world.table) live ((in_walking eq laws s h).well n))
 
-  pub live_walk : (s : State K V E) (n : ℕ) (c : Call K V E) → IsReached eq s → s.calls n ≡ Some c → walks c.plan ≡ true → IsWalk c.plan
-  live_walk s n c h live walk = by (subst (LeftWell eq s.world.table) live ((in_walking eq laws s h).well n))
+  -- a call that looks a listed key up, or judges a record, walks
+  pub looking_walk : (s : State K V E) (n : ℕ) (c : Call K V E) → IsReached eq s → s.calls n ≡ Some c → 0 < weigh look_of c.plan → IsWalk c.plan
+  looking_walk s n c h live looks = by (subst (LeftWell eq s.world.table) live ((in_walking eq laws s h).well n))
     where
-      some : (p : List (Item K V E)) → walks p ≡ true → weigh walking p ≡ 0 → ⊥
-      some (plan.List_keys part ∷ rest) e h = omega (arith, h)
-      some (plan.Find key ∷ rest) e h = omega (arith, h)
-      some (plan.Scan there stored ∷ rest) e h = omega (arith, h)
-      some [] e h = false≢true e
-      some (_ ∷ rest) e h = false≢true e
+      none : (p : List (Item K V E)) → weigh walking p ≡ 0 → weigh look_of p ≡ 0
+      none [] calm = refl
+      none (plan.Find key ∷ rest) calm = absurd (omega (arith, calm))
+      none (plan.Scan there stored ∷ rest) calm = absurd (omega (arith, calm))
+      none (plan.Strike there stored ∷ rest) calm = absurd (omega (arith, calm))
+      none (_ ∷ rest) calm = let h = none rest (omega (arith, calm)) in omega (arith, h)
+
+      coming_none : (parts : ℕ) (p : List (Item K V E)) → IsComing parts p → weigh look_of p ≡ 0
+      coming_none parts p Gathers = refl
+      coming_none parts p (Hears number held) = refl
+      coming_none parts p (Posts held) = refl
+      coming_none parts p (Takes_turn held) = refl
+      coming_none parts p (Applies_first held) = refl
+      coming_none parts p (Ends_first held) = refl
+      coming_none parts p Turns = refl
+      coming_none parts p Applies = refl
+      coming_none parts p Ends_turn = refl
 
       by : GoesWell eq s.world.table c.plan → IsWalk c.plan
-      by (inl calm) = absurd (some c.plan walk calm)
-      by (inr h) = h.0
+      by (inl calm) = absurd (omega (arith, looks, none c.plan calm))
+      by (inr (inl h)) = h.0
+      by (inr (inr h)) = absurd (omega (arith, looks, coming_none h.0 c.plan h.1))
 
   module _ (s t : State K V E) (n : ℕ) (c : Call K V E) (reply : Turn K V E) (h : IsReached eq s) (live : s.calls n ≡ Some c) (step : Step eq s n reply t) where
     is_call : step.call ≡ c
@@ -340,7 +395,7 @@ module _ {K V E : Type 0} (eq : K → K → Bool) (laws : IsEquivalence eq) wher
         e = ap (λ (v : Call K V E). v.plan) is_call ∙ judge.1
 
         apart : Apart eq s.world.table.division (plan.Scan there stored ∷ judge.0)
-        apart = subst (Apart eq s.world.table.division) judge.1 (live_apart s n c h live (live_walk s n c h live (ap walks judge.1)))
+        apart = subst (Apart eq s.world.table.division) judge.1 (live_apart s n c h live (looking_walk s n c h live (subst (λ p. 0 < weigh look_of p) (sym judge.1) (omega arith))))
 
         left : PlanIf eq (Past eq s.world.table.division there) (t.calls n)
         left = step_cases eq (λ new next. PlanIf eq (Past eq s.world.table.division there) next.left)
@@ -367,7 +422,7 @@ module _ {K V E : Type 0} (eq : K → K → Bool) (laws : IsEquivalence eq) wher
         e = ap (λ (v : Call K V E). v.plan) is_call ∙ find.1
 
         apart : Apart eq s.world.table.division (plan.Find key ∷ find.0)
-        apart = subst (Apart eq s.world.table.division) find.1 (live_apart s n c h live (live_walk s n c h live (ap walks find.1)))
+        apart = subst (Apart eq s.world.table.division) find.1 (live_apart s n c h live (looking_walk s n c h live (subst (λ p. 0 < weigh look_of p) (sym find.1) (omega arith))))
 
         late : LooksPast eq s.world.table.division key find.0
         late = past_looks eq s.world.table.division key find.0 apart.0
@@ -378,7 +433,8 @@ module _ {K V E : Type 0} (eq : K → K → Bool) (laws : IsEquivalence eq) wher
             (outcomes eq (λ (new : World K V E) (next : Next K V E). Left key next.left) s.world n step.call (plan.Find key) find.0 (
               λ more. inl (_, refl, refl),
               λ none. inr (goes_planned eq (LooksPast eq s.world.table.division key) step.call find.0 late),
-              λ there stored some. inr late,
+              λ there stored some none. inr late,
+              λ there stored ids some is. inr late,
             )))
             (λ w next k. subst (Left key) (sym (put_here s.calls n next.left)) k)
 

@@ -6,7 +6,7 @@ use Rattle.std.specs.Option.{option_map}
 use Rattle.std.proofs.lemmas.Bool.{eq-eqb, eqb-true, false≢true}
 use Rattle.moka_hist.specs.Finite.{put_at}
 use Rattle.moka_hist.specs.Next.{Next, goes}
-use Rattle.moka_hist.specs.Plan.{Item, is_disabled, iter_plan, walk_from}
+use Rattle.moka_hist.specs.Plan.{Item, is_disabled, iter_plan, lists_from}
 use Rattle.moka_hist.specs.Plan as plan
 use Rattle.moka_hist.specs.Run.{IsReached, fresh_call}
 use Rattle.moka_hist.specs.State.{Call, Division, Listed, State, TablePart, World}
@@ -33,15 +33,13 @@ use Rattle.moka_laws.proofs.Counted.{reached_counted}
 use Rattle.moka_laws.proofs.Counting.{differ, differ_not, none_some, put_cases, put_here, put_there, some_same}
 use Rattle.moka_laws.proofs.Following.{made_on, no_leads, step_leads}
 use Rattle.moka_laws.proofs.FollowingIn.{Changes, By_clock, By_start, By_step, By_told, By_heard, By_drop, follow_in}
-use Rattle.moka_laws.proofs.NoWalks.{walking}
 use Rattle.moka_laws.proofs.Outcomes.{outcomes}
 use Rattle.moka_laws.proofs.Reached.{run_reached}
 use Rattle.moka_laws.proofs.StepCases.{OnStep, step_cases}
 use Rattle.moka_laws.proofs.Steady.{step_calls, step_last}
-use Rattle.moka_laws.proofs.Walkers.{AreWalking, BegunBy, GoesWell, LeftWell, begun_named, division_stays, in_walking, part_begun}
-use Rattle.moka_laws.proofs.Walks.{Ends, Finds, IsWalk, Lists, Scans}
+use Rattle.moka_laws.proofs.Walkers.{AreWalking, BegunBy, begun_named, division_stays, in_walking, part_begun}
+use Rattle.moka_laws.proofs.Walks.{IsShowing, Shows, ShowsIf, Shows_end, Shows_find, Shows_list, Shows_scan, on_shows, walk_shows}
 use Rattle.moka_laws.proofs.WalksGive.{scans_show}
-use Rattle.moka_laws.proofs.Weights.{weigh}
 
 pub and_true : (a b : Bool) → a ≡ true → b ≡ true → (a && b) ≡ true
 and_true true true h k = refl
@@ -125,7 +123,7 @@ module _ {K V : Type 0} (eq : K → K → Bool) (n : ℕ) (key : K) where
         here : m ≡ n → Some (unwrap_or (t.listings m) (listed_now t part)) ≡ Some l → l.must key ≡ true
         here same f = by (t.listings n) refl (ap (λ k. unwrap_or (t.listings k) (listed_now t part)) (sym same) ∙ some_same f)
 
-    begun_must : (o : TableOp K V) → IsSome (t.stored key) → MustGive (begun t m o)
+    pub begun_must : (o : TableOp K V) → IsSome (t.stored key) → MustGive (begun t m o)
     begun_must (op.Get other) stands = must
     begun_must (op.InsertOrModify other stored) stands = must
     begun_must (op.InsertIfAbsent other stored) stands = must
@@ -145,7 +143,7 @@ module _ {K V E : Type 0} (eq : K → K → Bool) (n : ℕ) (key : K) where
       subst (λ (v : World K V E). MustGive eq n key v.table) (sym gets.1) must
   access_must m w new _ _ gets was is must = absurd gets
 
-  step_must : (s t : State K V E) (m : ℕ) (turn : Turn K V E) → Step eq s m turn t → IsSome (s.world.table.stored key) →
+  pub step_must : (s t : State K V E) (m : ℕ) (turn : Turn K V E) → Step eq s m turn t → IsSome (s.world.table.stored key) →
       IsSome (t.world.table.stored key) → MustGive eq n key s.world.table → MustGive eq n key t.world.table
   step_must s t m turn st was is must =
       subst (λ (v : State K V E). MustGive eq n key v.world.table) (sym st.after)
@@ -155,23 +153,17 @@ module _ {K V E : Type 0} (eq : K → K → Bool) (n : ℕ) (key : K) where
   -- ---- what the plan has still to do for the key
 
   -- it lists the key's part, or looks an equal key up
-  abbrev ToLook : Division K → List (Item K V E) → Type 0
+  abbrev pub ToLook : Division K → List (Item K V E) → Type 0
   ToLook d [] = ⊥
   ToLook d (plan.List_keys part ∷ rest) = (d.part_of key ≡ part) ⊎ ToLook d rest
   ToLook d (plan.Find other ∷ rest) = (eq other key ≡ true) ⊎ ToLook d rest
   ToLook d (_ ∷ rest) = ToLook d rest
 
-  calm_looks : (d : Division K) (p : List (Item K V E)) → weigh walking p ≡ 0 → ToLook d p → ⊥
-  calm_looks d [] calm h = h
-  calm_looks d (plan.List_keys part ∷ rest) calm h = omega (arith, calm)
-  calm_looks d (plan.Find other ∷ rest) calm h = omega (arith, calm)
-  calm_looks d (_ ∷ rest) calm h = calm_looks d rest (omega (arith, calm)) h
-
-  finds_later : (d : Division K) (keys : List K) (rest : List (Item K V E)) → ToLook d rest → ToLook d (map plan.Find keys ++ rest)
+  pub finds_later : (d : Division K) (keys : List K) (rest : List (Item K V E)) → ToLook d rest → ToLook d (map plan.Find keys ++ rest)
   finds_later d [] rest h = h
   finds_later d (k ∷ keys) rest h = inr (finds_later d keys rest h)
 
-  finds_now : IsEquivalence eq → (d : Division K) (keys : List K) (rest : List (Item K V E)) → list_any (eq key) keys ≡ true →
+  pub finds_now : IsEquivalence eq → (d : Division K) (keys : List K) (rest : List (Item K V E)) → list_any (eq key) keys ≡ true →
       ToLook d (map plan.Find keys ++ rest)
   finds_now laws d [] rest h = absurd (false≢true h)
   finds_now laws d (k ∷ keys) rest h = by (eq key k) refl h (finds_now laws d keys rest)
@@ -182,15 +174,15 @@ module _ {K V E : Type 0} (eq : K → K → Bool) (n : ℕ) (key : K) where
       by false e f later = inr (later f)
 
 -- the plan that lists each part comes to the key
-look_from : {K : Type 0} (V E : Type 0) (eq : K → K → Bool) (n : ℕ) (key : K) (d : Division K) (part left : ℕ) →
-    part ≤ d.part_of key → d.part_of key < part + left → ToLook {K = K} {V = V} {E = E} eq n key d (walk_from part left)
-look_from V E eq n key d part zero low high = absurd (omega (arith, low, high))
-look_from {K} V E eq n key d part (suc left) low high =
-    by (d.part_of key == part) refl (λ more. look_from V E eq n key d (part + 1) left more (omega (arith, high)))
+pub look_from : {K V E : Type 0} (eq : K → K → Bool) (n : ℕ) (key : K) (d : Division K) (last : List (Item K V E)) (part left : ℕ) →
+    part ≤ d.part_of key → d.part_of key < part + left → ToLook eq n key d (lists_from part left last)
+look_from eq n key d last part zero low high = absurd (omega (arith, low, high))
+look_from {K} {V} {E} eq n key d last part (suc left) low high =
+    by (d.part_of key == part) refl (λ more. look_from eq n key d last (part + 1) left more (omega (arith, high)))
   where
     by : (b : Bool) → (d.part_of key == part) ≡ b →
-        (part + 1 ≤ d.part_of key → ToLook {K = K} {V = V} {E = E} eq n key d (walk_from (part + 1) left)) →
-        ToLook {K = K} {V = V} {E = E} eq n key d (walk_from part (suc left))
+        (part + 1 ≤ d.part_of key → ToLook {K = K} {V = V} {E = E} eq n key d (lists_from (part + 1) left last)) →
+        ToLook {K = K} {V = V} {E = E} eq n key d (lists_from part (suc left) last)
     by true e later = inl (eqb-true (d.part_of key) part e)
     by false e later = inr (later (past_part (d.part_of key) part low e))
 
@@ -235,6 +227,7 @@ module _ {K V E : Type 0} (eq : K → K → Bool) (n : ℕ) (key : K) where
     born : n ≤ v.world.desk.last
     stands : IsSome (v.world.table.stored key)
     must : MustGive eq n key v.world.table
+    shows : ShowsIf (v.calls n)
     stage : StageIf v (v.calls n)
 
   module _ (laws : IsEquivalence eq) where
@@ -265,9 +258,10 @@ module _ {K V E : Type 0} (eq : K → K → Bool) (n : ℕ) (key : K) where
       same_there : (other : K) → eq other key ≡ true → s.world.table.stored other ≡ s.world.table.stored key
       same_there other e = (reached_counted eq laws s i.reached).alike other key e
 
-      went : (p : List (Item K V E)) → c.plan ≡ p → IsWalk p → ToLook eq n key s.world.table.division p → OnStep eq After s.world n c p
-      went p e Ends h = absurd h
-      went p e (Lists part rest walk) h = outcomes eq After s.world n c (plan.List_keys part) rest (
+      went : (p : List (Item K V E)) → c.plan ≡ p → c.carried ≡ None → IsShowing p → ToLook eq n key s.world.table.division p →
+          OnStep eq After s.world n c p
+      went p e free Shows_end h = absurd h
+      went p e free (Shows_list part rest walk) h = outcomes eq After s.world n c (plan.List_keys part) rest (
         λ more. record { silent = λ a f. cc; call = _; live = refl; left = Still (subst (ToLook eq n key s.world.table.division) (sym e) h) },
         λ listed keys is gives. went_on s c (map plan.Find keys ++ rest) (by listed keys (begun_named s.world.table n c part rest e begins listed is) is
             gives.whole h),
@@ -280,10 +274,11 @@ module _ {K V E : Type 0} (eq : K → K → Bool) (n : ℕ) (key : K) where
           by listed keys named is whole (inl of) = finds_now eq n key laws s.world.table.division keys rest
               (whole key (begun_must eq n key n s.world.table i.must (op.Keys part) i.stands listed is (of ∙ sym named)))
           by listed keys named is whole (inr later) = finds_later eq n key s.world.table.division keys rest later
-      went p e (Finds other rest walk) h = outcomes eq After s.world n c (plan.Find other) rest (
+      went p e free (Shows_find other rest walk) h = outcomes eq After s.world n c (plan.Find other) rest (
         λ more. record { silent = λ a f. cc; call = _; live = refl; left = Still (subst (ToLook eq n key s.world.table.division) (sym e) h) },
         λ none. by_none none h,
-        λ there stored some. record { silent = λ a f. cc; call = _; live = refl; left = by_some there stored some h },
+        λ there stored some none. record { silent = λ a f. cc; call = _; live = refl; left = by_some there stored some h },
+        λ there stored ids some is. absurd (none_some (sym free ∙ is)),
       )
         where
           by_none : s.world.table.stored other ≡ None → (eq other key ≡ true) ⊎ ToLook eq n key s.world.table.division rest → Went s c (goes c rest)
@@ -294,7 +289,7 @@ module _ {K V E : Type 0} (eq : K → K → Bool) (n : ℕ) (key : K) where
               (eq other key ≡ true) ⊎ ToLook eq n key s.world.table.division rest → Left s c (record c { mode = mode.Mid; plan = plan.Scan there stored ∷ rest })
           by_some there stored some (inl f) = Found other there stored rest e f some refl
           by_some there stored some (inr later) = Still later
-      went p e (Scans there stored rest walk) h = outcomes eq After s.world n c (plan.Scan there stored) rest (
+      went p e free (Shows_scan there stored rest walk) h = outcomes eq After s.world n c (plan.Scan there stored) rest (
         λ seen. record { silent = λ a f. cc; call = _; live = refl; left = Still h },
         λ unseen. went_on s c rest h,
       )
@@ -305,7 +300,9 @@ module _ {K V E : Type 0} (eq : K → K → Bool) (n : ℕ) (key : K) where
 
     own_went : (s t : State K V E) (reply : Turn K V E) → Follows s → (st : Step eq s n reply t) → ToLook eq n key s.world.table.division st.call.plan →
         ((a : Answer K V E) → reply ≡ turn.Answer a → ⊥) × (d : Call K V E) × (t.calls n ≡ Some d) × Left s st.call d
-    own_went s t reply i st h = by (subst (LeftWell eq s.world.table) st.live (walkers.well n))
+    own_went s t reply i st h =
+        step_cases eq (After s st.call i begins) (LeftSo s st.call) s t n reply st (went s st.call i begins st.call.plan refl shows.free shows.walk h)
+        (λ w next k. (k.silent, k.call, put_here s.calls n next.left ∙ k.live, k.left))
       where
         walkers : AreWalking eq s
         walkers = in_walking eq laws s i.reached
@@ -313,11 +310,8 @@ module _ {K V E : Type 0} (eq : K → K → Bool) (n : ℕ) (key : K) where
         begins : BegunBy (part_begun s.world.table n) (Some st.call)
         begins = subst (BegunBy (part_begun s.world.table n)) st.live (walkers.begun n)
 
-        by : GoesWell eq s.world.table st.call.plan → LeftSo s st.call t reply
-        by (inl calm) = absurd (calm_looks eq n key s.world.table.division st.call.plan calm h)
-        by (inr walk) =
-            step_cases eq (After s st.call i begins) (LeftSo s st.call) s t n reply st (went s st.call i begins st.call.plan refl walk.0 h)
-            (λ w next k. (k.silent, k.call, put_here s.calls n next.left ∙ k.live, k.left))
+        shows : Shows st.call
+        shows = subst ShowsIf st.live i.shows
 
     scan_left : (p q : List (Item K V E)) (listed there : K) (stored : Stored V) (rest more : List (Item K V E)) → p ≡ plan.Find listed ∷ rest →
         q ≡ plan.Scan there stored ∷ more → q ≡ p → ⊥
@@ -386,9 +380,20 @@ module _ {K V E : Type 0} (eq : K → K → Bool) (n : ℕ) (key : K) where
       born = omega (arith, i.born, step_last eq s t m reply st);
       stands = stands;
       must = step_must eq n key s t m reply st i.stands stands i.must;
+      shows = shown (m == n) refl;
       stage = by (m == n) refl;
     }
       where
+        own_shows : Step eq s n reply t → ShowsIf (t.calls n)
+        own_shows own =
+            step_cases eq (λ new next. ShowsIf next.left) (λ v _. ShowsIf (v.calls n)) s t n reply own
+            (on_shows eq s.world n own.call (subst ShowsIf own.live i.shows))
+            (λ w next h. subst ShowsIf (sym (put_here s.calls n next.left)) h)
+
+        shown : (b : Bool) → (m == n) ≡ b → ShowsIf (t.calls n)
+        shown true e = own_shows (subst (λ v. Step eq s v reply t) (eqb-true m n e) st)
+        shown false e = subst ShowsIf (sym (step_calls eq s t m n reply e st)) i.shows
+
         by : (b : Bool) → (m == n) ≡ b → StageIf t (t.calls n)
         by true e = own_stage s t reply led i (subst (λ v. Step eq s v reply t) (eqb-true m n e) st)
         by false e = subst (StageIf t) (sym (step_calls eq s t m n reply e st))
@@ -400,6 +405,7 @@ module _ {K V E : Type 0} (eq : K → K → Bool) (n : ℕ) (key : K) where
       born = i.born;
       stands = i.stands;
       must = i.must;
+      shows = i.shows;
       stage = stage_on s t led refl (s.calls n) i.stage;
     }
     follows_kept s t (By_start v begin) led stands i = record {
@@ -407,6 +413,7 @@ module _ {K V E : Type 0} (eq : K → K → Bool) (n : ℕ) (key : K) where
       born = omega (arith, i.born);
       stands = i.stands;
       must = i.must;
+      shows = subst ShowsIf (sym (put_there s.calls (s.world.desk.last + 1) _ n (differ (s.world.desk.last + 1) n (λ e. omega (arith, e, i.born))))) i.shows;
       stage = subst (StageIf t)
           (sym (put_there s.calls (s.world.desk.last + 1) _ n (differ (s.world.desk.last + 1) n (λ e. omega (arith, e, i.born)))))
           (stage_on s t led refl (s.calls n) i.stage);
@@ -417,6 +424,7 @@ module _ {K V E : Type 0} (eq : K → K → Bool) (n : ℕ) (key : K) where
       born = i.born;
       stands = i.stands;
       must = i.must;
+      shows = i.shows;
       stage = stage_on s t led refl (s.calls n) i.stage;
     }
     follows_kept s t (By_heard v m off) led stands i = record {
@@ -424,6 +432,7 @@ module _ {K V E : Type 0} (eq : K → K → Bool) (n : ℕ) (key : K) where
       born = i.born;
       stands = i.stands;
       must = i.must;
+      shows = i.shows;
       stage = stage_on s t led refl (s.calls n) i.stage;
     }
     follows_kept s t (By_drop v m c live between) led stands i = record {
@@ -431,9 +440,14 @@ module _ {K V E : Type 0} (eq : K → K → Bool) (n : ℕ) (key : K) where
       born = i.born;
       stands = i.stands;
       must = i.must;
+      shows = shown (m == n) refl;
       stage = by (m == n) refl;
     }
       where
+        shown : (b : Bool) → (m == n) ≡ b → ShowsIf (cond b None (s.calls n))
+        shown true e = tt
+        shown false e = i.shows
+
         by : (b : Bool) → (m == n) ≡ b → StageIf t (cond b None (s.calls n))
         by true e = tt
         by false e = stage_on s t led refl (s.calls n) i.stage
@@ -448,9 +462,14 @@ module _ {K V E : Type 0} (eq : K → K → Bool) (n : ℕ) (key : K) where
       stands = stands;
       must = nothing_begun eq n key s.world.table
           (none (part_begun s.world.table n) (subst (BegunBy (part_begun s.world.table n)) live (walkers.begun n)));
+      shows = subst ShowsIf (sym live) (record {
+        walk = subst (λ b. IsShowing {K = K} {V = V} {E = E} (iter_plan b s.world.table.division.parts)) (sym able)
+            (walk_shows 0 s.world.table.division.parts);
+        free = refl;
+      });
       stage = subst (StageIf s) (sym live) (Coming
           (subst (λ b. ToLook {K = K} {V = V} {E = E} eq n key s.world.table.division (iter_plan b s.world.table.division.parts)) (sym able)
-          (look_from V E eq n key s.world.table.division 0 s.world.table.division.parts (omega arith) (omega (arith, walkers.divides.part key)))));
+          (look_from {K = K} {V = V} {E = E} eq n key s.world.table.division (plan.Reply answer.End ∷ []) 0 s.world.table.division.parts (omega arith) (omega (arith, walkers.divides.part key)))));
     }
       where
         walkers : AreWalking eq s

@@ -21,15 +21,15 @@ use Rattle.moka_hist.specs.declared.tables.TableTurn.TheVariants as table
 use Rattle.moka_bound.specs.Ahead.{growth, ahead, judge_steps, read_key_steps, steps_of, work_in}
 use Rattle.moka_hist.specs.Visits.{settlement_for}
 use Rattle.moka_bound.specs.Falling.{Shortens, keys_in}
-use Rattle.moka_bound.proofs.Falls.{going_falls}
+use Rattle.moka_bound.proofs.Falls.{going_falls, walks_add_none}
 use Rattle.moka_bound.proofs.More.{post_worst}
 use Rattle.moka_bound.proofs.Size.{access_size}
 use Rattle.moka_laws.specs.Bounded.{LogsHaveRoom}
 use Rattle.moka_laws.proofs.Counting.{put_here, same_number}
 use Rattle.moka_laws.proofs.Kept.{IsInvariant, in_reached}
-use Rattle.moka_laws.proofs.Plans.{IsTail, Answering, Settling, IsDrained, Looking, Giving, Putting, IsPosted, Draining, Ended, Locking, IsPlan, Posted, Drained, Posting, Hearing, Noticing, Listening, Unlocking, Turning, Applying, Ending, Judging, Writing, Finding, Taking, Freeing, Idling, Asking_op, Reading_key, calls_known, Walking}
+use Rattle.moka_laws.proofs.Plans.{IsTail, Answering, Settling, IsDrained, Looking, Giving, Putting, IsPosted, Draining, Ended, Locking, IsPlan, Posted, Drained, Posting, Hearing, Noticing, Listening, Unlocking, Turning, Applying, Ending, Judging, Writing, Finding, Taking, Freeing, Idling, Asking_op, Reading_key, calls_known, Walking, Maintaining, Applying_all, Ending_all}
 use Rattle.moka_laws.proofs.Safe.{in_well, may_step}
-use Rattle.moka_laws.proofs.Walks.{Ends, Finds, Lists, Scans}
+use Rattle.moka_laws.proofs.Walks.{Ends, Finds, Lists, Scans, Chooses, Retires, Strikes}
 
 true_false : true ≡ false → ⊥
 true_false e = cc
@@ -59,40 +59,41 @@ module _ {K V E : Type 0} (owed most aborts left : ℕ) (within : left ≤ most)
   put_steps m l p (Settling with a) = omega arith
 
   drained_steps : (room : Bool) (l : ℕ) (ended : Bool) (p : List (Item K V E)) → l ≤ most →
-      IsDrained p → steps_of owed most aborts room l ended p ≤ 8 * owed + 2 * most + 408
-  drained_steps room l ended p h (Looking aim key look) =
+      IsDrained p → walks p ≡ false → steps_of owed most aborts room l ended p ≤ 8 * owed + 2 * most + 408
+  drained_steps room l ended p h (Looking aim key look) calm =
       omega (arith, h, judge_few owed most aborts aim)
-  drained_steps room l ended p h (Asking_op compute pair) = omega arith
-  drained_steps room l ended p h (Giving a) = omega arith
-  drained_steps room l ended p h (Putting key value rest t) =
+  drained_steps room l ended p h (Asking_op compute pair) calm = omega arith
+  drained_steps room l ended p h (Giving a) calm = omega arith
+  drained_steps room l ended p h (Putting key value rest t) calm =
       omega (arith, put_steps (most + growth) (most + growth) rest t)
-  drained_steps room l ended p h (Locking key value rest t) =
+  drained_steps room l ended p h (Locking key value rest t) calm =
       omega (arith, put_steps (most + growth) (most + growth) rest t)
-  drained_steps room l ended p h _ = omega (arith, h)
+  drained_steps room l ended p h (Maintaining parts) calm = absurd (true_false calm)
+  drained_steps room l ended p h _ calm = omega (arith, h)
 
-  posted_steps : (room : Bool) (l : ℕ) (ended : Bool) (p : List (Item K V E)) → IsPosted p →
+  posted_steps : (room : Bool) (l : ℕ) (ended : Bool) (p : List (Item K V E)) → IsPosted p → walks p ≡ false →
       steps_of owed most aborts room l ended p ≤ 16 * owed + 2 * most + 409
-  posted_steps room l ended p (Draining rest d) =
-      omega (arith, drained_steps false most true rest (omega arith) d)
-  posted_steps room l ended p (Ended rest t) = omega (arith, tail_steps room l ended rest t)
+  posted_steps room l ended p (Draining rest d) calm =
+      omega (arith, drained_steps false most true rest (omega arith) d calm)
+  posted_steps room l ended p (Ended rest t) calm = omega (arith, tail_steps room l ended rest t)
 
   few_steps : (room ended : Bool) (p : List (Item K V E)) → IsPlan p → walks p ≡ false →
       steps_of owed most aborts room left ended p ≤ 16 * owed + 2 * most + 416
-  few_steps room ended p (Posted rest d) calm = omega (arith, posted_steps room left ended rest d)
+  few_steps room ended p (Posted rest d) calm = omega (arith, posted_steps room left ended rest d calm)
   few_steps room ended p (Drained rest d) calm =
-      omega (arith, drained_steps room left ended rest within d)
+      omega (arith, drained_steps room left ended rest within d calm)
   few_steps room ended p (Posting x rest d) calm =
-      omega (arith, post_worst room, posted_steps false most true rest d)
+      omega (arith, post_worst room, posted_steps false most true rest d calm)
   few_steps room ended p (Hearing number x rest d) calm =
-      omega (arith, posted_steps false most true rest d)
+      omega (arith, posted_steps false most true rest d calm)
   few_steps room ended p (Noticing key old cause upsert x rest t) calm =
       omega (arith, tail_steps false most true rest t)
   few_steps room ended p (Listening x rest t) calm = omega (arith, tail_steps false most true rest t)
   few_steps room ended p (Unlocking x rest t) calm = omega (arith, tail_steps false most true rest t)
-  few_steps room ended p (Turning x rest d) calm = omega (arith, posted_steps false most true rest d)
-  few_steps room ended p (Applying x rest d) calm = omega (arith, posted_steps false most true rest d)
+  few_steps room ended p (Turning x rest d) calm = omega (arith, posted_steps false most true rest d calm)
+  few_steps room ended p (Applying x rest d) calm = omega (arith, posted_steps false most true rest d calm)
   few_steps room ended p (Ending x rest d) calm =
-      omega (arith, post_worst room, posted_steps false most true rest d)
+      omega (arith, post_worst room, posted_steps false most true rest d calm)
   few_steps room ended p (Judging aim key stored look) calm =
       omega (arith, judge_few owed most aborts aim)
   few_steps room ended p (Reading_key compute) calm = omega (arith, read_key_few ended owed most)
@@ -103,6 +104,11 @@ module _ {K V E : Type 0} (owed most aborts left : ℕ) (within : left ≤ most)
   few_steps room ended p (Freeing rest t) calm = omega (arith, tail_steps false most true rest t)
   few_steps room ended p (Idling rest t) calm = omega (arith, tail_steps false most true rest t)
   few_steps room ended p (Walking rest Ends) calm = omega arith
+  few_steps room ended p (Walking rest Retires) calm = absurd (true_false calm)
+  few_steps room ended p (Walking rest (Chooses parts)) calm = absurd (true_false calm)
+  few_steps room ended p (Walking rest (Strikes there found more walk)) calm = absurd (true_false calm)
+  few_steps room ended p (Applying_all parts) calm = absurd (true_false calm)
+  few_steps room ended p (Ending_all parts) calm = absurd (true_false calm)
   few_steps room ended p (Walking rest (Lists part more walk)) calm = absurd (true_false calm)
   few_steps room ended p (Walking rest (Finds key more walk)) calm = absurd (true_false calm)
   few_steps room ended p (Walking rest (Scans there found more walk)) calm = absurd (true_false calm)
@@ -275,7 +281,8 @@ module _ {K V E : Type 0} (eq : K → K → Bool) where
   step_falls s t n j k c h live st none less =
       let is : c ≡ st.call = same_call c st.call (sym live ∙ st.live) in
       let f = going_falls eq n st.call s.world st.world st.given (work_in n j s.world) (work_in n k st.world)
-      (calls_known eq s h n st.call st.live).young (logs_have_room s h) (subst (λ (v : Call K V E). walks v.plan ≡ false → j ≡ 0) is none)
+      (calls_known eq s h n st.call st.live).young (logs_have_room s h)
+      (walks_add_none n st.call st.given j (subst (λ (v : Call K V E). walks v.plan ≡ false → j ≡ 0) is none))
       (may_step eq s (in_well eq s h) n st.call st.live) st.gets
       (record { owed = refl; logged = refl; size = refl; ended = refl })
       (record { owed = refl; logged = refl; size = refl; ended = refl })

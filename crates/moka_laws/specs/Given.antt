@@ -70,6 +70,9 @@ asked_key (plan.Register test ∷ rest) = None
 asked_key (plan.List_keys part ∷ rest) = None
 asked_key (plan.Find key ∷ rest) = None
 asked_key (plan.Scan there found ∷ rest) = None
+asked_key (plan.Candidates parts ∷ rest) = None
+asked_key (plan.Strike there found ∷ rest) = None
+asked_key (plan.Retire ∷ rest) = None
 asked_key (plan.Reply answer ∷ rest) = None
 
 module _ {K V E : Type 0} where

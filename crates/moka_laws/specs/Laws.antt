@@ -20,11 +20,14 @@ use Rattle.moka_laws.specs.Loads.{AbortsAreCounted, AnswersFit, ErrorByCause, Ex
 use Rattle.moka_laws.specs.Loads.{NothingByCause, OpenedByOwners, OwnEndsAreTold}
 use Rattle.moka_laws.specs.Loads.{OwnersAnswerSettled, SettlementsFit, TestsAreTwo}
 use Rattle.moka_laws.specs.Looks.{GetsMiss, GetsShow, InsertsShow, LoadsShow, OwnersShow}
+use Rattle.moka_laws.specs.Maintaining.{MaintenanceDrains}
 use Rattle.moka_laws.specs.Missing.{MissingCanCome, TurnIsHeld, WaitersHaveOwners}
 use Rattle.moka_laws.specs.Moments.{AccessesAreInTime, AccessesAreSeen, InvalidatedStayUnseen}
 use Rattle.moka_laws.specs.Moments.{InvalidationHides}
 use Rattle.moka_laws.specs.Moving.{CallsAreSafe, MoveIsStep, MovesAreSteps, PolledIsPoll}
 use Rattle.moka_laws.specs.OwnKeys.{ReachedByLawfulRun, ReachedIsUnderOwnKeys, StoredAreCounted}
+use Rattle.moka_laws.specs.Predicates.{HiddenAreAhead, HitAreUnseen, HitStayHit, ItemsAreNotHit}
+use Rattle.moka_laws.specs.Predicates.{LeavingAreSpent, MaintenanceTakesNothing, OthersLeavePredicates}
 use Rattle.moka_laws.specs.Reaching.{FreshIsReached, LiveWasStarted, ReachedByEvent, ReachedByRun}
 use Rattle.moka_laws.specs.Reaching.{ReachedByStep, ReachedBySteps, RunGoesOn, RunsAreWays}
 use Rattle.moka_laws.specs.Readers.{NothingUnreadIsKept, ReadersAreCounted, WaitersAnswerSettled}
@@ -170,3 +173,12 @@ pub record LawsOfReached (K V E : Type 0) (eq : K → K → Bool) : Type 0 where
   pub looks_are_apart : LooksAreApart K V E eq
   pub stored_are_found : StoredAreFound K V E eq
   pub undisturbed_show : UndisturbedShow K V E eq
+  -- what predicates hide, which of them leave, and what maintenance does
+  pub hit_are_unseen-unseen : HitAreUnseen K V E eq
+  pub hit_are_unseen-items : ItemsAreNotHit K V E eq
+  pub hidden_are_ahead : HiddenAreAhead K V E eq
+  pub leaving_are_spent-spent : LeavingAreSpent K V E eq
+  pub leaving_are_spent-others : OthersLeavePredicates K V E eq
+  pub hit_stay_hit : HitStayHit K V E eq
+  pub maintenance_takes_nothing : MaintenanceTakesNothing K V E eq
+  pub maintenance_drains : MaintenanceDrains K V E eq

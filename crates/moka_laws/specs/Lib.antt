@@ -22,4 +22,6 @@ pub mod Removals
 pub mod Computes
 pub mod Given
 pub mod Leaving
+pub mod Predicates
+pub mod Maintaining
 pub mod Laws

@@ -74,6 +74,9 @@ module _ {K V E : Type 0} where
   locked_key (plan.List_keys part ∷ rest) = None
   locked_key (plan.Find key ∷ rest) = None
   locked_key (plan.Scan there found ∷ rest) = None
+  locked_key (plan.Candidates parts ∷ rest) = None
+  locked_key (plan.Strike there found ∷ rest) = None
+  locked_key (plan.Retire ∷ rest) = None
   locked_key (plan.Reply answer ∷ rest) = None
 
 -- in every reached state under a listener a call holds the lock of the key that it is to write or

@@ -246,6 +246,9 @@ module _ {K V E : Type 0} where
   is_reading (plan.List_keys part ∷ rest) = false
   is_reading (plan.Find key ∷ rest) = false
   is_reading (plan.Scan there found ∷ rest) = false
+  is_reading (plan.Candidates parts ∷ rest) = false
+  is_reading (plan.Strike there found ∷ rest) = false
+  is_reading (plan.Retire ∷ rest) = false
   is_reading (plan.Reply answer ∷ rest) = false
 
   -- 1 where the call of this number reads with its next step that its owner was dropped
@@ -288,6 +291,9 @@ module _ {K V E : Type 0} where
   test_asked (plan.List_keys part ∷ rest) = 0
   test_asked (plan.Find key ∷ rest) = 0
   test_asked (plan.Scan there found ∷ rest) = 0
+  test_asked (plan.Candidates parts ∷ rest) = 0
+  test_asked (plan.Strike there found ∷ rest) = 0
+  test_asked (plan.Retire ∷ rest) = 0
   test_asked (plan.Reply answer ∷ rest) = 0
 
   -- 1 where the call asks its replace test with its next step

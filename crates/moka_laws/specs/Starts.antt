@@ -29,6 +29,7 @@ key_started (start.Evict key stamp cause) = Some key
 key_started start.InvalidateAll = None
 key_started (start.InvalidateIf test) = None
 key_started start.Iter = None
+key_started start.Pending = None
 
 -- the pair that a call is started with, to store it
 abbrev pub brought : {K V : Type 0} → Start K V → Option (K × V)
@@ -48,6 +49,7 @@ brought (start.Evict key stamp cause) = None
 brought start.InvalidateAll = None
 brought (start.InvalidateIf test) = None
 brought start.Iter = None
+brought start.Pending = None
 
 -- the kind of load that a call is started for, if it is one
 abbrev pub kind_loaded : {K V : Type 0} → Start K V → Option Kind
@@ -67,6 +69,7 @@ kind_loaded (start.Evict key stamp cause) = None
 kind_loaded start.InvalidateAll = None
 kind_loaded (start.InvalidateIf test) = None
 kind_loaded start.Iter = None
+kind_loaded start.Pending = None
 
 -- the key that a call is started to compute
 abbrev pub computed_key : {K V : Type 0} → Start K V → Option K
@@ -86,6 +89,7 @@ computed_key (start.Evict key stamp cause) = None
 computed_key start.InvalidateAll = None
 computed_key (start.InvalidateIf test) = None
 computed_key start.Iter = None
+computed_key start.Pending = None
 
 -- a call that is started for this asks nothing where another compute of the key goes: that is of one
 -- start alone
@@ -111,6 +115,7 @@ removal_started (start.Evict key stamp cause) = Some (plan.To_evict_chosen stamp
 removal_started start.InvalidateAll = None
 removal_started (start.InvalidateIf test) = None
 removal_started start.Iter = None
+removal_started start.Pending = None
 
 -- a call that is started for this asks its caller for nothing, and waits for no load and no compute
 abbrev pub asks_nobody : {K V : Type 0} → Start K V → Bool
@@ -123,6 +128,7 @@ asks_nobody (start.Evict key stamp cause) = true
 asks_nobody start.InvalidateAll = true
 asks_nobody (start.InvalidateIf test) = true
 asks_nobody start.Iter = true
+asks_nobody start.Pending = true
 asks_nobody (start.GetWith key replace) = false
 asks_nobody (start.Optional key) = false
 asks_nobody (start.Try key) = false
@@ -159,6 +165,7 @@ may_answer (start.InvalidateIf test) (answer.Id id) = true
 may_answer (start.InvalidateIf test) answer.ClosuresDisabled = true
 may_answer (start.InvalidateIf test) answer.NoId = true
 may_answer start.Iter answer.End = true
+may_answer start.Pending answer.Done = true
 may_answer _ _ = false
 
 -- the compute has stored a value
@@ -240,3 +247,4 @@ module _ {K V E : Type 0} where
   says_stored start.InvalidateAll a = false
   says_stored (start.InvalidateIf test) a = false
   says_stored start.Iter a = false
+  says_stored start.Pending a = false

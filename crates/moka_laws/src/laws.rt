@@ -105,4 +105,10 @@ pub fn laws_of_reached<K: Eq, V, E>()
     crate::looks_are_apart::<K, V, E>();
     crate::stored_are_found::<K, V, E>();
     crate::undisturbed_show::<K, V, E>();
+    crate::hit_are_unseen::<K, V, E>();
+    crate::hidden_are_ahead::<K, V, E>();
+    crate::leaving_are_spent::<K, V, E>();
+    crate::hit_stay_hit::<K, V, E>();
+    crate::maintenance_takes_nothing::<K, V, E>();
+    crate::maintenance_drains::<K, V, E>();
 }

@@ -15,9 +15,11 @@ mod laws;
 mod listening;
 mod loads;
 mod looks;
+mod maintaining;
 mod missing;
 mod moments;
 mod moving;
+mod predicates;
 mod reaching;
 mod readers;
 mod removals;
@@ -27,48 +29,108 @@ mod waiting;
 mod walking;
 
 pub use alone::insert_then_get;
-pub use answered::{answered_is_posted, posted_stays, stored_is_committed};
-pub use bounded::{logs_have_room, step_events_are_bounded, steps_are_bounded};
-pub use computes::{
-    acting_computes_own, alone_waits_for_nobody, asks_carry_found, computes_answer_told,
-    computes_are_one, nops_answer_asked, nops_change_nothing, one_compute_acts,
-    owned_until_settled, waits_are_apart,
-};
-pub use given::{handed_is_given, stored_is_given};
-pub use held::{calls_may_leave, held_are_known, writes_name_old};
-pub use lawful::{
-    event_is_lawful, lawful_run_goes_on, reached_is_lawful, run_is_lawful, steps_are_lawful,
-};
+pub use answered::answered_is_posted;
+pub use answered::posted_stays;
+pub use answered::stored_is_committed;
+pub use bounded::logs_have_room;
+pub use bounded::step_events_are_bounded;
+pub use bounded::steps_are_bounded;
+pub use computes::acting_computes_own;
+pub use computes::alone_waits_for_nobody;
+pub use computes::asks_carry_found;
+pub use computes::computes_answer_told;
+pub use computes::computes_are_one;
+pub use computes::nops_answer_asked;
+pub use computes::nops_change_nothing;
+pub use computes::one_compute_acts;
+pub use computes::owned_until_settled;
+pub use computes::waits_are_apart;
+pub use given::handed_is_given;
+pub use given::stored_is_given;
+pub use held::calls_may_leave;
+pub use held::held_are_known;
+pub use held::writes_name_old;
+pub use lawful::event_is_lawful;
+pub use lawful::lawful_run_goes_on;
+pub use lawful::reached_is_lawful;
+pub use lawful::run_is_lawful;
+pub use lawful::steps_are_lawful;
 pub use laws::laws_of_reached;
-pub use listening::{
-    asks_are_live, asks_are_one, keys_are_locked, locks_are_held, locks_are_one,
-    notices_are_in_order, notices_are_settled, notices_tell_left, off_was_told,
-};
-pub use loads::{
-    aborts_are_counted, answers_fit, error_by_cause, exhausted_at_last, nothing_by_cause,
-    opened_by_owners, own_ends_are_told, owners_answer_settled, settlements_fit, shapes_fit,
-    tests_are_two,
-};
-pub use looks::{gets_by_time, loads_by_time};
-pub use missing::{missing_can_come, turn_is_held, waiters_have_owners};
-pub use moments::{accesses_are_seen, invalidated_are_unseen};
-pub use moving::{calls_are_safe, move_is_step, moves_are_steps, polled_is_poll};
-pub use reaching::{
-    fresh_is_reached, live_was_started, reached_by_event, reached_by_run, reached_by_step,
-    reached_by_steps, run_goes_on, runs_are_ways,
-};
-pub use readers::{nothing_unread_is_kept, readers_are_counted, waiters_answer_settled};
-pub use removals::{
-    chosen_stands, disabled_stores_nothing, evicted_is_out, kept_by_cause, missed_by_cause,
-    places_come_back, removals_answer, remove_answers_taken, stamps_are_one,
-};
-pub use sound::{
-    clock_keeps_sound, deciding_keeps_sound, entering_keeps_sound, fresh_is_sound,
-    leaving_keeps_sound, reached_is_sound, telling_keeps_sound, visits_keep_sound,
-};
-pub use stored::{reached_by_lawful_run, stored_are_counted, stored_under_own_keys};
-pub use waiting::{live_calls_go_on, waits_by_cause};
-pub use walking::{
-    items_are_apart, items_are_found, items_are_walks, lists_are_started, looks_are_apart,
-    scans_show, stored_are_found, undisturbed_show,
-};
+pub use listening::asks_are_live;
+pub use listening::asks_are_one;
+pub use listening::keys_are_locked;
+pub use listening::locks_are_held;
+pub use listening::locks_are_one;
+pub use listening::notices_are_in_order;
+pub use listening::notices_are_settled;
+pub use listening::notices_tell_left;
+pub use listening::off_was_told;
+pub use loads::aborts_are_counted;
+pub use loads::answers_fit;
+pub use loads::error_by_cause;
+pub use loads::exhausted_at_last;
+pub use loads::nothing_by_cause;
+pub use loads::opened_by_owners;
+pub use loads::own_ends_are_told;
+pub use loads::owners_answer_settled;
+pub use loads::settlements_fit;
+pub use loads::shapes_fit;
+pub use loads::tests_are_two;
+pub use looks::gets_by_time;
+pub use looks::loads_by_time;
+pub use maintaining::maintenance_drains;
+pub use missing::missing_can_come;
+pub use missing::turn_is_held;
+pub use missing::waiters_have_owners;
+pub use moments::accesses_are_seen;
+pub use moments::invalidated_are_unseen;
+pub use moving::calls_are_safe;
+pub use moving::move_is_step;
+pub use moving::moves_are_steps;
+pub use moving::polled_is_poll;
+pub use predicates::hidden_are_ahead;
+pub use predicates::hit_are_unseen;
+pub use predicates::hit_stay_hit;
+pub use predicates::leaving_are_spent;
+pub use predicates::maintenance_takes_nothing;
+pub use reaching::fresh_is_reached;
+pub use reaching::live_was_started;
+pub use reaching::reached_by_event;
+pub use reaching::reached_by_run;
+pub use reaching::reached_by_step;
+pub use reaching::reached_by_steps;
+pub use reaching::run_goes_on;
+pub use reaching::runs_are_ways;
+pub use readers::nothing_unread_is_kept;
+pub use readers::readers_are_counted;
+pub use readers::waiters_answer_settled;
+pub use removals::chosen_stands;
+pub use removals::disabled_stores_nothing;
+pub use removals::evicted_is_out;
+pub use removals::kept_by_cause;
+pub use removals::missed_by_cause;
+pub use removals::places_come_back;
+pub use removals::removals_answer;
+pub use removals::remove_answers_taken;
+pub use removals::stamps_are_one;
+pub use sound::clock_keeps_sound;
+pub use sound::deciding_keeps_sound;
+pub use sound::entering_keeps_sound;
+pub use sound::fresh_is_sound;
+pub use sound::leaving_keeps_sound;
+pub use sound::reached_is_sound;
+pub use sound::telling_keeps_sound;
+pub use sound::visits_keep_sound;
+pub use stored::reached_by_lawful_run;
+pub use stored::stored_are_counted;
+pub use stored::stored_under_own_keys;
+pub use waiting::live_calls_go_on;
+pub use waiting::waits_by_cause;
+pub use walking::items_are_apart;
+pub use walking::items_are_found;
+pub use walking::items_are_walks;
+pub use walking::lists_are_started;
+pub use walking::looks_are_apart;
+pub use walking::scans_show;
+pub use walking::stored_are_found;
+pub use walking::undisturbed_show;

@@ -3,9 +3,9 @@ ghost use Rattle.std.specs.Prelude.{◌≡◌, ◌≢◌, ◌≤◌, ℕ, Option
 ghost use Rattle.std.proofs.Common.{refl, ◌∙◌};
 ghost use Rattle.moka_layers.specs.Counted.{counted};
 
-use crate::visits::make_visit;
+use crate::visits::{make_visit, retire};
 use moka_desk::Desk;
-use moka_hist::{Got, TableOp, TableTurn, Tests, Visit, Want};
+use moka_hist::{Got, IdList, TableOp, TableTurn, Tests, Visit, Want};
 use moka_ids::PcgIds;
 use moka_init::{Alone, Ground};
 use moka_sync::CallList;
@@ -158,6 +158,40 @@ impl<
         Ok(Got::Desk(found))
     }
 
+    // Lets the predicates go, for which they are lent.
+    fn retire_lent(&mut self, ids: &IdList) -> Got<K, V, E>
+        requires may { (w : World K V E) × GroundIs K.eq T.Table Q.Tests self.old w }
+        requires none { self.old.begun ≡ None }
+        ensures serves { Serves K.eq T.Table Q.Tests self.old (On_desk (Visit.Retire ids.now))
+            result self.new }
+        ensures tells { Accesses (account_of T.Table self.old) (On_desk (Visit.Retire ids.now))
+            result (account_of T.Table self.new) }
+        ensures call { self.new.call ≡ self.old.call }
+        ensures kept { KeepsAsBefore self.old.desk self.new.desk }
+        ensures decides { Decides T.Table result self.new }
+    {
+        let found = retire(&mut self.desk, ids);
+        Got::Desk(found)
+    }
+
+    /// Lets these predicates go: makes the visit `Retire`, for which they are lent. It takes no
+    /// memory, and hands nobody out.
+    pub fn retire(&mut self, ids: &IdList) -> Got<K, V, E>
+        requires allows { Allows K.eq T.Table Q.Tests self.old
+            (Want.Desk (Visit.Retire ids.now)) }
+        // What it gives, and what is told then.
+        ensures serves { OfWanted (account_of T.Table self.old) (Want.Desk (Visit.Retire ids.now))
+            (λ access. Serves K.eq T.Table Q.Tests self.old access result self.new) }
+        ensures tells { OfWanted (account_of T.Table self.old) (Want.Desk (Visit.Retire ids.now))
+            (λ access. Accesses (account_of T.Table self.old) access result
+            (account_of T.Table self.new)) }
+        ensures call { self.new.call ≡ self.old.call }
+        ensures kept { KeepsAsBefore self.old.desk self.new.desk }
+        ensures decides { Decides T.Table result self.new }
+    {
+        self.retire_lent(ids)
+    }
+
     /// Makes the wanted access. After want of memory the layers stand for what they stood for.
     /// Whatever is accessed, other calls may go on with what they have begun. Where the table
     /// always decides at once, as the plain one does, each access decides.
@@ -267,6 +301,30 @@ impl<
             (Lacks (GroundIs K.eq T.Table Q.Tests self.old) NeedsMemory)) }
     {
         Layers::access(self, want)
+    }
+
+    fn retire(&mut self, ids: &IdList) -> Result<Got<K, V, E>, AllocError>
+        requires fits { Allows K.eq T.Table Q.Tests self.old (Want.Desk (Visit.Retire ids.now)) }
+        // What it gives, and what is told then.
+        ensures gives { IfOk result (λ given. OfWanted (account_of T.Table self.old)
+            (Want.Desk (Visit.Retire ids.now)) (λ access. Gives K.eq self.old.call
+            (GroundIs K.eq T.Table Q.Tests self.old) access given
+            (GroundIs K.eq T.Table Q.Tests self.new))) }
+        ensures tells { IfOk result (λ given. OfWanted (account_of T.Table self.old)
+            (Want.Desk (Visit.Retire ids.now)) (λ access. Accesses (account_of T.Table self.old)
+            access given (account_of T.Table self.new))) }
+        ensures keeps { self.new.call ≡ self.old.call }
+        // Without memory.
+        ensures err { OnErr result
+            (account_of T.Table self.new ≡ account_of T.Table self.old) }
+        ensures err_stands { OnErr result ((w : World K V E)
+            → GroundIs K.eq T.Table Q.Tests self.old w
+            → GroundIs K.eq T.Table Q.Tests self.new w) }
+        ensures err_needs { OnErr result (OfWanted (account_of T.Table self.old)
+            (Want.Desk (Visit.Retire ids.now))
+            (Lacks (GroundIs K.eq T.Table Q.Tests self.old) NeedsMemory)) }
+    {
+        Ok(Layers::retire(self, ids))
     }
 }
 

@@ -10,7 +10,9 @@ ghost use Rattle.moka_layers.specs.Visiting.{DeskStays, VisitBy, VisitIs, VisitL
 ghost use Rattle.moka_layers.specs.Visiting.{handed_out, test_holds};
 
 use moka_desk::Desk;
-use moka_hist::{Cause, Found, Load, PredicateError, Settled, Stored, Takes, Tests, Visit};
+use moka_hist::{
+    Cause, Found, Id, IdList, Load, PredicateError, Settled, Stored, Takes, Tests, Visit,
+};
 use moka_ids::PcgIds;
 use moka_sync::CallList;
 use moka_values::Exact;
@@ -57,9 +59,9 @@ pub(crate) fn make_visit<K: Eq + Hash + Exact, V: Exact, E: Exact, Q: Tests<K, V
             replace,
             key,
             stored,
-        } => judge(desk, tests, replace, &key, &stored),
-        Visit::Scan { key, stored } => Ok(scan(desk, tests, &key, &stored)),
-        Visit::Holds { key, stored, cause } => Ok(holds(desk, tests, &key, &stored, cause)),
+        } => judge(desk, tests, replace, key, stored),
+        Visit::Scan { key, stored } => Ok(scan(desk, tests, key, stored)),
+        Visit::Holds { key, stored, cause } => Ok(holds(desk, tests, key, stored, cause)),
         Visit::WaitOrOwn { call, key, kind } => wait_or_own(desk, call, Load { key, kind }),
         Visit::OwnAlone { call, key } => own_alone(desk, call, key),
         Visit::ReadSettled { call } => read_settled(desk, call),
@@ -71,10 +73,14 @@ pub(crate) fn make_visit<K: Eq + Hash + Exact, V: Exact, E: Exact, Q: Tests<K, V
         Visit::ApplyOne { call } => Ok(Found::ApplyOne(desk.apply_one(call))),
         Visit::InvalidateAll => Ok(invalidate_all(desk)),
         Visit::Register { test } => register(desk, ids, test),
+        Visit::Candidates => candidates(desk),
+        Visit::Strike { ids, key, stored } => Ok(strike(desk, tests, ids, key, stored)),
+        Visit::Retire { ids } => Ok(retire(desk, &ids)),
         Visit::EndTurn { call } => Ok(end_turn(desk, call, woken)),
     }
 }
 
+#[inline(always)]
 fn stamp_moment<K: Eq + Hash + Exact, V: Exact, E: Exact>(
     desk: &mut Desk<K, V, E>,
     call: u64,
@@ -90,27 +96,29 @@ fn stamp_moment<K: Eq + Hash + Exact, V: Exact, E: Exact>(
 }
 
 // Judges the record by the tests and the predicates, which the desk does not have.
+#[inline(always)]
 fn judge<K: Eq + Hash + Exact, V: Exact, E: Exact, Q: Tests<K, V>>(
     desk: &mut Desk<K, V, E>,
     tests: &Q,
     replace: Option<u64>,
-    key: &K,
-    stored: &Stored<V>,
+    key: K,
+    stored: Stored<V>,
 ) -> Result<Found<V, E>, AllocError>
     ensures ok { IfOk result (λ found. (ids : ℕ → ℕ)
         → VisitBy K.eq (handed_by Q.Tests tests.now ids) desk.old
-        (Visit.Judge replace key.now stored.now) found desk.new
+        (Visit.Judge replace key stored) found desk.new
         (handed_by Q.Tests tests.now ids)) }
     ensures err { OnErr result (DeskStays K.eq desk.old desk.new) }
     ensures kept { KeepsAsBefore desk.old desk.new }
 {
-    let hit = desk.hits(tests, key, stored);
-    let replaced = is_replaced(tests, replace, key, &stored.value);
+    let hit = desk.hits(tests, &key, &stored);
+    let replaced = is_replaced(tests, replace, &key, &stored.value);
     let seen = desk.judge(hit, replaced, stored.stamp, stored.modified)?;
     Ok(Found::Judge(seen))
 }
 
 // Whether the test of this number, if there is one, holds on the key and the value.
+#[inline(always)]
 fn is_replaced<K, V, Q: Tests<K, V>>(tests: &Q, replace: Option<u64>, key: &K, value: &V) -> bool
     ensures { result ≡ test_holds (Q.answers tests.now) replace key.now value.now }
 {
@@ -121,43 +129,40 @@ fn is_replaced<K, V, Q: Tests<K, V>>(tests: &Q, replace: Option<u64>, key: &K, v
 }
 
 // Judges a record that a walk found.
-#[cold]
-#[inline(never)]
+#[inline(always)]
 fn scan<K: Eq + Hash + Exact, V: Exact, E: Exact, Q: Tests<K, V>>(
     desk: &mut Desk<K, V, E>,
     tests: &Q,
-    key: &K,
-    stored: &Stored<V>,
+    key: K,
+    stored: Stored<V>,
 ) -> Found<V, E>
     ensures visit { (ids : ℕ → ℕ) → VisitBy K.eq (handed_by Q.Tests tests.now ids) desk.old
-        (Visit.Scan key.now stored.now) result desk.new (handed_by Q.Tests tests.now ids) }
+        (Visit.Scan key stored) result desk.new (handed_by Q.Tests tests.now ids) }
     ensures kept { KeepsAsBefore desk.old desk.new }
 {
-    let hit = desk.hits(tests, key, stored);
+    let hit = desk.hits(tests, &key, &stored);
     Found::Scan(desk.scan(hit, stored.stamp, stored.modified))
 }
 
-#[cold]
-#[inline(never)]
+#[inline(always)]
 fn holds<K: Eq + Hash + Exact, V: Exact, E: Exact, Q: Tests<K, V>>(
     desk: &mut Desk<K, V, E>,
     tests: &Q,
-    key: &K,
-    stored: &Stored<V>,
+    key: K,
+    stored: Stored<V>,
     cause: Cause,
 ) -> Found<V, E>
     ensures visit { (ids : ℕ → ℕ) → VisitBy K.eq (handed_by Q.Tests tests.now ids) desk.old
-        (Visit.Holds key.now stored.now cause) result desk.new
+        (Visit.Holds key stored cause) result desk.new
         (handed_by Q.Tests tests.now ids) }
     ensures kept { KeepsAsBefore desk.old desk.new }
 {
-    let hit = desk.hits(tests, key, stored);
+    let hit = desk.hits(tests, &key, &stored);
     Found::Holds(desk.holds(hit, stored.stamp, stored.modified, cause))
 }
 
 // Registers the predicate of this number.
-#[cold]
-#[inline(never)]
+#[inline(always)]
 fn register<K: Eq + Hash + Exact, V: Exact, E: Exact>(
     desk: &mut Desk<K, V, E>,
     ids: &mut PcgIds,
@@ -172,12 +177,56 @@ fn register<K: Eq + Hash + Exact, V: Exact, E: Exact>(
     ensures kept { KeepsAsBefore desk.old desk.new }
 {
     match desk.register(test, ids) {
-        Ok(id) => Ok(Found::Register(Ok(id))),
+        Ok(id) => Ok(Found::Register(Ok(Id::new(id)))),
         Err(why) => unregistered(why),
     }
 }
 
+// Chooses the predicates that may leave.
+#[inline(always)]
+fn candidates<K: Eq + Hash + Exact, V: Exact, E: Exact>(
+    desk: &mut Desk<K, V, E>,
+) -> Result<Found<V, E>, AllocError>
+    ensures ok { IfOk result (λ found. VisitIs K.eq desk.old Visit.Candidates found desk.new) }
+    ensures err { OnErr result (DeskStays K.eq desk.old desk.new) }
+    ensures kept { KeepsAsBefore desk.old desk.new }
+{
+    let chosen = desk.candidates()?;
+    Ok(Found::Candidates(chosen))
+}
+
+// Looks which of these predicates hide a record that maintenance found.
+#[inline(always)]
+fn strike<K: Eq + Hash + Exact, V: Exact, E: Exact, Q: Tests<K, V>>(
+    desk: &mut Desk<K, V, E>,
+    tests: &Q,
+    named: IdList,
+    key: K,
+    stored: Stored<V>,
+) -> Found<V, E>
+    ensures visit { (ids : ℕ → ℕ) → VisitBy K.eq (handed_by Q.Tests tests.now ids) desk.old
+        (Visit.Strike named key stored) result desk.new
+        (handed_by Q.Tests tests.now ids) }
+    ensures kept { KeepsAsBefore desk.old desk.new }
+{
+    Found::Strike(desk.strike(tests, named, &key, &stored))
+}
+
+// Lets these predicates leave.
+#[inline(always)]
+pub(crate) fn retire<K: Eq + Hash + Exact, V: Exact, E: Exact>(
+    desk: &mut Desk<K, V, E>,
+    named: &IdList,
+) -> Found<V, E>
+    ensures visit { VisitIs K.eq desk.old (Visit.Retire named.now) result desk.new }
+    ensures kept { KeepsAsBefore desk.old desk.new }
+{
+    desk.retire(named);
+    Found::Retire
+}
+
 // What is found where no predicate was registered, unless that was for want of memory.
+#[inline(always)]
 fn unregistered<V, E>(why: PredicateError) -> Result<Found<V, E>, AllocError>
     ensures { MatchResult result
         (λ found. (found ≡ Found.Register (Err why)) × (why ≢ PredicateError.Memory))
@@ -190,6 +239,7 @@ fn unregistered<V, E>(why: PredicateError) -> Result<Found<V, E>, AllocError>
     }
 }
 
+#[inline(always)]
 fn wait_or_own<K: Eq + Hash + Exact, V: Exact, E: Exact>(
     desk: &mut Desk<K, V, E>,
     call: u64,
@@ -205,6 +255,7 @@ fn wait_or_own<K: Eq + Hash + Exact, V: Exact, E: Exact>(
     Ok(Found::WaitOrOwn(claim))
 }
 
+#[inline(always)]
 fn own_alone<K: Eq + Hash + Exact, V: Exact, E: Exact>(
     desk: &mut Desk<K, V, E>,
     call: u64,
@@ -220,6 +271,7 @@ fn own_alone<K: Eq + Hash + Exact, V: Exact, E: Exact>(
     Ok(Found::OwnAlone(owned))
 }
 
+#[inline(always)]
 fn read_settled<K: Eq + Hash + Exact, V: Exact, E: Exact>(
     desk: &mut Desk<K, V, E>,
     call: u64,
@@ -234,6 +286,7 @@ fn read_settled<K: Eq + Hash + Exact, V: Exact, E: Exact>(
     Ok(Found::ReadSettled(settled))
 }
 
+#[inline(always)]
 fn open_ask<K: Eq + Hash + Exact, V: Exact, E: Exact>(
     desk: &mut Desk<K, V, E>,
     call: u64,
@@ -249,6 +302,7 @@ fn open_ask<K: Eq + Hash + Exact, V: Exact, E: Exact>(
     Ok(Found::OpenAsk)
 }
 
+#[inline(always)]
 fn settle<K: Eq + Hash + Exact, V: Exact, E: Exact>(
     desk: &mut Desk<K, V, E>,
     call: u64,
@@ -264,8 +318,7 @@ fn settle<K: Eq + Hash + Exact, V: Exact, E: Exact>(
     Found::Settle
 }
 
-#[cold]
-#[inline(never)]
+#[inline(always)]
 fn invalidate_all<K: Eq + Hash + Exact, V: Exact, E: Exact>(desk: &mut Desk<K, V, E>) -> Found<V, E>
     ensures visit { VisitIs K.eq desk.old Visit.InvalidateAll result desk.new }
     ensures kept { KeepsAsBefore desk.old desk.new }
@@ -274,8 +327,7 @@ fn invalidate_all<K: Eq + Hash + Exact, V: Exact, E: Exact>(desk: &mut Desk<K, V
     Found::InvalidateAll
 }
 
-#[cold]
-#[inline(never)]
+#[inline(always)]
 fn end_turn<K: Eq + Hash + Exact, V: Exact, E: Exact>(
     desk: &mut Desk<K, V, E>,
     call: u64,
@@ -290,8 +342,7 @@ fn end_turn<K: Eq + Hash + Exact, V: Exact, E: Exact>(
     Found::EndTurn
 }
 
-#[cold]
-#[inline(never)]
+#[inline(always)]
 fn notice_ended<K: Eq + Hash + Exact, V: Exact, E: Exact>(
     desk: &mut Desk<K, V, E>,
     call: u64,
@@ -307,8 +358,7 @@ fn notice_ended<K: Eq + Hash + Exact, V: Exact, E: Exact>(
     Ok(Found::NoticeEnded(ended))
 }
 
-#[cold]
-#[inline(never)]
+#[inline(always)]
 fn lock_key<K: Eq + Hash + Exact, V: Exact, E: Exact>(
     desk: &mut Desk<K, V, E>,
     call: u64,
@@ -324,8 +374,7 @@ fn lock_key<K: Eq + Hash + Exact, V: Exact, E: Exact>(
     Ok(Found::LockKey(locked))
 }
 
-#[cold]
-#[inline(never)]
+#[inline(always)]
 fn unlock_key<K: Eq + Hash + Exact, V: Exact, E: Exact>(
     desk: &mut Desk<K, V, E>,
     call: u64,
@@ -341,8 +390,7 @@ fn unlock_key<K: Eq + Hash + Exact, V: Exact, E: Exact>(
     Found::UnlockKey
 }
 
-#[cold]
-#[inline(never)]
+#[inline(always)]
 fn open_notice<K: Eq + Hash + Exact, V: Exact, E: Exact>(
     desk: &mut Desk<K, V, E>,
     call: u64,
@@ -364,8 +412,7 @@ fn open_notice<K: Eq + Hash + Exact, V: Exact, E: Exact>(
     Ok(Found::OpenNotice(told))
 }
 
-#[cold]
-#[inline(never)]
+#[inline(always)]
 fn take_turn<K: Eq + Hash + Exact, V: Exact, E: Exact>(
     desk: &mut Desk<K, V, E>,
     call: u64,

@@ -46,6 +46,7 @@ module _ {K V E : Type 0} where
   copies_need w (step.On_desk (visit.OwnAlone n key)) copies = tt
   copies_need w (step.On_desk (visit.OpenAsk n takes)) copies = tt
   copies_need w (step.On_desk (visit.Settle n with)) copies = copies
+  copies_need w (step.On_desk (visit.Strike ids key stored)) copies = tt
   copies_need w (step.On_desk _) copies = absurd copies
 
   -- the flow's cause and the ground's

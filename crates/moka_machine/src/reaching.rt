@@ -4,7 +4,7 @@ ghost use Rattle.std.proofs.Common.{refl, ◌∙◌};
 ghost use Rattle.moka_layers.specs.Counted.{counted};
 
 use crate::machine::Machine;
-use moka_hist::{Got, Tests, Want};
+use moka_hist::{Got, IdList, Tests, Visit, Want};
 use moka_init::{Alone, Ground};
 use moka_values::Exact;
 use std::alloc::AllocError;
@@ -58,6 +58,30 @@ impl<K: Eq + Hash + Exact, V: Exact, E: Exact, T: Tests<K, V> + Drop> Ground<K, 
             (Lacks (Reaches K.eq T.Tests self.old) NeedsMemory)) }
     {
         self.layers.access(want)
+    }
+
+    fn retire(&mut self, ids: &IdList) -> Result<Got<K, V, E>, AllocError>
+        requires fits { AllowsEvent K.eq T.Tests self.old (Want.Desk (Visit.Retire ids.now)) }
+        // What it gives, and what is told then.
+        ensures gives { IfOk result (λ given.
+            OfWanted (account_of (the_table K.eq) self.old.layers) (Want.Desk (Visit.Retire ids.now))
+            (λ access. Gives K.eq self.old.layers.call (Reaches K.eq T.Tests self.old) access given
+            (Reaches K.eq T.Tests self.new))) }
+        ensures tells { IfOk result (λ given.
+            OfWanted (account_of (the_table K.eq) self.old.layers) (Want.Desk (Visit.Retire ids.now))
+            (λ access. Accesses (account_of (the_table K.eq) self.old.layers) access given
+            (account_of (the_table K.eq) self.new.layers))) }
+        ensures keeps { self.new.calls ≡ self.old.calls }
+        // Without memory.
+        ensures err { OnErr result (account_of (the_table K.eq) self.new.layers
+            ≡ account_of (the_table K.eq) self.old.layers) }
+        ensures err_stands { OnErr result ((w : World K V E) → Reaches K.eq T.Tests self.old w
+            → Reaches K.eq T.Tests self.new w) }
+        ensures err_needs { OnErr result
+            (OfWanted (account_of (the_table K.eq) self.old.layers) (Want.Desk (Visit.Retire ids.now))
+            (Lacks (Reaches K.eq T.Tests self.old) NeedsMemory)) }
+    {
+        Ok(self.layers.retire(ids))
     }
 }
 

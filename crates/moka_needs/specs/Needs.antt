@@ -42,8 +42,11 @@ module _ {K V E : Type 0} where
   need_of (visit.EndTurn n) = need.EndTurn
   need_of visit.InvalidateAll = need.InvalidateAll
   need_of (visit.Register test) = need.Register
+  need_of visit.Candidates = need.Candidates
+  need_of (visit.Strike ids key stored) = need.Strike
+  need_of (visit.Retire ids) = need.Retire
 
-  -- the visit is one of this call; five kinds of visits don't name theirs
+  -- the visit is one of this call; eight kinds of visits don't name theirs
   abbrev pub IsOfCall : ℕ → Visit K V E → Type 0
   IsOfCall call (visit.Clock n) = n ≡ call
   IsOfCall call (visit.TakeOwed n) = n ≡ call
@@ -67,3 +70,6 @@ module _ {K V E : Type 0} where
   IsOfCall call (visit.EndTurn n) = n ≡ call
   IsOfCall call visit.InvalidateAll = Unit {0}
   IsOfCall call (visit.Register test) = Unit {0}
+  IsOfCall call visit.Candidates = Unit {0}
+  IsOfCall call (visit.Strike ids key stored) = Unit {0}
+  IsOfCall call (visit.Retire ids) = Unit {0}

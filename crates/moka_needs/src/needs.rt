@@ -38,4 +38,7 @@ pub enum Need<K> {
     EndTurn,
     InvalidateAll,
     Register,
+    Candidates,
+    Strike,
+    Retire,
 }

@@ -43,6 +43,8 @@ and each other line is an event:
   start invalidate_if TEST   a call registers a predicate: it hides each record on which the test
                              holds, but for those that are written later
   start iter                 a call walks: it gives the records that a look shows, one at a time
+  start pending              a call maintains: it finishes what dropped calls left, applies the log,
+                             and lets predicates go that hide nothing any more
   start evict KEY STAMP CAUSE
                              a call takes the key's record out, where it is the one of this stamp
                              and has to leave for this cause: Expired, Explicit, Replaced or Size

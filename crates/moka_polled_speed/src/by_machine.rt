@@ -26,10 +26,14 @@ pub fn found(alloc: Global, rounds: u64) -> Result<u64, AllocError> {
 fn found_in(machine: &mut Events, rounds: u64) -> Result<u64, AllocError>
     requires valid { IsValid nat_eq no_tests machine.old }
 {
-    store(machine)?;
+    let _ = has_loaded(machine, Start::Insert { key: 7, value: 5 })?;
     let mut found = 0u64;
     for _ in 0..rounds {
-        if is_found(machine)? {
+        let load = Start::GetWith {
+            key: 7,
+            replace: None,
+        };
+        if has_loaded(machine, load)? {
             found = found.wrapping_add(1);
         }
     }
@@ -53,41 +57,17 @@ fn built(alloc: Global) -> Result<Events, AllocError>
     }
 }
 
-/// Stores the key.
-fn store(machine: &mut Events) -> Result<(), AllocError>
+/// Starts a call, and polls it. Tells whether it has loaded a value.
+fn has_loaded(machine: &mut Events, start: Start<u32, u32>) -> Result<bool, AllocError>
     requires valid { IsValid nat_eq no_tests machine.old }
     ensures valid { OnOk result (IsValid nat_eq no_tests machine.new) }
 {
-    let call = start(machine, Start::Insert { key: 7, value: 5 })?;
-    let _ = serve(machine, &Event::Poll { call })?;
-    Ok(())
-}
-
-/// Loads the key, and tells whether it was found.
-fn is_found(machine: &mut Events) -> Result<bool, AllocError>
-    requires valid { IsValid nat_eq no_tests machine.old }
-    ensures valid { OnOk result (IsValid nat_eq no_tests machine.new) }
-{
-    let call = start(
-        machine,
-        Start::GetWith {
-            key: 7,
-            replace: None,
-        },
-    )?;
+    let call = match serve(machine, &Event::Start { start })? {
+        Reply::Call(call) => call,
+        _ => 0,
+    };
     let reply = serve(machine, &Event::Poll { call })?;
     Ok(matches!(reply, Reply::Answer(Answer::Loaded { .. })))
-}
-
-/// Starts a call, and answers its number, or 0 where none was left.
-fn start(machine: &mut Events, start: Start<u32, u32>) -> Result<u64, AllocError>
-    requires valid { IsValid nat_eq no_tests machine.old }
-    ensures valid { OnOk result (IsValid nat_eq no_tests machine.new) }
-{
-    match serve(machine, &Event::Start { start })? {
-        Reply::Call(call) => Ok(call),
-        _ => Ok(0),
-    }
 }
 
 /// Carries the event out.

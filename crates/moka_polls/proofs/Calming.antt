@@ -1,10 +1,10 @@
 -- A whole poll leaves a calm cache calm.
-use Rattle.std.proofs.Common.{◌≡◌, ◌+◌, ◌==◌, ℕ, Bool, true, false, cond, List, [], ◌∷◌, ◌++◌, map, Option, Some, None, refl, sym, ap, ◌∙◌, subst}
+use Rattle.std.proofs.Common.{◌≡◌, ◌+◌, ◌==◌, ℕ, Bool, true, false, cond, List, [], ◌∷◌, ◌++◌, map, Option, Some, None, refl, sym, ap, ◌∙◌, subst, inl, zero, suc}
 use Rattle.std.proofs.lemmas.Bool.{false≢true}
 use Rattle.moka_hist.specs.Visits.{registering}
 use Rattle.moka_hist.specs.Invalidating.{registering_answer}
 use Rattle.moka_hist.specs.State.{World, Call, DeskPart, TablePart}
-use Rattle.moka_hist.specs.Plan.{Item, Aim, Change, Removal, is_disabled, load_rest, loaded, put, take_out, told_on}
+use Rattle.moka_hist.specs.Plan.{Item, Aim, Change, Removal, is_disabled, load_rest, loaded, put, take_out, told_on, lists_from, pending_plan}
 use Rattle.moka_hist.specs.Plan as plan
 use Rattle.moka_hist.specs.Next.{Next, goes, waits, gives, asks, answers}
 use Rattle.moka_hist.specs.Looking.{misses, hits, shown, finds_pair, chosen_or_not, kept_rest}
@@ -41,6 +41,9 @@ use Rattle.moka_polls.proofs.Phases.{Comes, Goes, along, on, stops}
 use Rattle.moka_polls.proofs.Posting.{Posts, Posting, posts_steps}
 use Rattle.moka_polls.proofs.Putting.{plain_put}
 use Rattle.moka_polls.proofs.Removing.{plain_take_out}
+use Rattle.moka_hist.specs.Maintenance.{carrying}
+use Rattle.moka_hist.specs.declared.writes.Owed.{Owed}
+use Rattle.std.specs.Option.{option_map_or}
 
 module _ {K V E : Type 0} where
   -- what calls store, take out, and say at the end holds nothing, where no listener is set
@@ -49,7 +52,11 @@ module _ {K V E : Type 0} where
   put_holds rules key value rest unheard h =
       plain_put HoldsNothing rules key value rest unheard (tt, (tt, h))
 
-  -- so do the looks for listed keys
+  -- so do the lists of parts, and the looks for listed keys
+  lists_hold : (rest : List (Item K V E)) → HoldsNothing rest → (part left : ℕ) → HoldsNothing (lists_from part left rest)
+  lists_hold rest h part zero = h
+  lists_hold rest h part (suc left) = (tt, lists_hold rest h (part + 1) left)
+
   finds_hold : (keys : List K) (rest : List (Item K V E)) → HoldsNothing rest →
       HoldsNothing (map plan.Find keys ++ rest)
   finds_hold [] rest h = h
@@ -78,6 +85,9 @@ loaded_holds E true rules key value unheard = (tt, (tt, tt))
 loaded_holds E false rules key value unheard =
     put_holds rules key value (told_on {E = E} value) unheard (tt, (tt, tt))
 
+some_owed : (x : Owed) (xs : List Owed) → [] ≡ x ∷ xs → ⊥
+some_owed x xs e = cc
+
 module _ {K V E : Type 0} (eq : K → K → Bool) (n : ℕ) (rules : Rules)
     (unheard : rules.listener ≡ false) where
   -- the desk is of these rules, nobody has the turn, and no write is owed
@@ -86,10 +96,23 @@ module _ {K V E : Type 0} (eq : K → K → Bool) (n : ℕ) (rules : Rules)
     pub free : w.desk.turn ≡ None
     pub owes : w.desk.owed ≡ []
 
+  -- the turn is with this call, and nothing else has changed
+  pub record Turned (w : World K V E) : Type 0 where
+    pub of_these : w.desk.rules ≡ rules
+    pub owes : w.desk.owed ≡ []
+
+  pub data Maintaining (parts : ℕ) (w : World K V E) : List (Item K V E) → Type 0 where
+    Gathering : Still w → Maintaining parts w (pending_plan false parts)
+    Turning : Still w → Maintaining parts w (plan.Turn ∷ plan.Apply ∷ plan.End ∷ plan.Candidates parts ∷ [])
+    Applying : Turned w → Maintaining parts w (plan.Apply ∷ plan.End ∷ plan.Candidates parts ∷ [])
+    Ending : Turned w → Maintaining parts w (plan.End ∷ plan.Candidates parts ∷ [])
+
   -- the call holds nothing, or is about its own write and holds nothing after that
   pub data Plans (w : World K V E) : List (Item K V E) → Type 0 where
     Rests : (p : List (Item K V E)) → HoldsNothing p → w.desk.rules ≡ rules →
         w.desk.turn ≡ None → w.desk.owed ≡ [] → Plans w p
+    -- maintenance takes up nothing, takes the turn, applies the log, and ends the turn
+    Maintains : (parts : ℕ) (p : List (Item K V E)) → Maintaining parts w p → Plans w p
     Posted : (t : TablePart K V) (d : DeskPart K V E) (write : Write) (rest : List (Item K V E)) →
         HoldsNothing rest → d.rules ≡ rules → d.turn ≡ None → d.owed ≡ [] →
         (p : List (Item K V E)) → Posts t d n write rest w p → Plans w p
@@ -146,7 +169,7 @@ module _ {K V E : Type 0} (eq : K → K → Bool) (n : ℕ) (rules : Rules)
   parks w b these h still = comes b these w _ (stops b Plans Fin w _ (λ f. cc) (record {
     still = still;
     rest = λ d e. subst (IsAtRest rules) (some_same e)
-        (record { rules = these; mode = λ f. cc; plan = h });
+        (record { rules = these; mode = λ f. cc; plan = inl h });
   }))
 
   asks_so : (w : World K V E) (b : Call K V E) (asked : Ask K V) (rest : List (Item K V E)) →
@@ -154,7 +177,7 @@ module _ {K V E : Type 0} (eq : K → K → Bool) (n : ℕ) (rules : Rules)
   asks_so w b asked rest these h still = comes b these w _ (stops b Plans Fin w _ (λ f. cc) (record {
     still = still;
     rest = λ d e. subst (IsAtRest rules) (some_same e)
-        (record { rules = these; mode = λ f. cc; plan = h });
+        (record { rules = these; mode = λ f. cc; plan = inl h });
   }))
 
   -- it gives a record
@@ -163,7 +186,7 @@ module _ {K V E : Type 0} (eq : K → K → Bool) (n : ℕ) (rules : Rules)
   gives_so w b key value rest these h still = comes b these w _ (stops b Plans Fin w _ (λ f. cc) (record {
     still = still;
     rest = λ d e. subst (IsAtRest rules) (some_same e)
-        (record { rules = these; mode = λ f. cc; plan = h });
+        (record { rules = these; mode = λ f. cc; plan = inl h });
   }))
 
   replies : (w : World K V E) (b : Call K V E) (a : Answer K V E) → b.rules ≡ rules → Still w →
@@ -427,11 +450,20 @@ module _ {K V E : Type 0} (eq : K → K → Bool) (n : ℕ) (rules : Rules)
   item_steps w b (plan.Find key) rest these p i h still = (
     λ more. undecided _ b these p (same w _ refl refl refl still),
     λ none. go _ b rest these h (same w _ refl refl refl still),
-    λ there stored some. go _ b (plan.Scan there stored ∷ rest) these (tt, h)
+    λ there stored some none. go _ b (plan.Scan there stored ∷ rest) these (tt, h)
+        (same w _ refl refl refl still),
+    λ there stored ids some is. go _ b (plan.Strike there stored ∷ rest) these (tt, h)
         (same w _ refl refl refl still),
   )
   item_steps w b (plan.Scan there stored) rest these p i h still =
       (λ seen. gives_so w b there stored.value rest these h still, λ unseen. go w b rest these h still)
+  item_steps w b (plan.Candidates parts) rest these p i h still = (
+    λ none. replies w b answer.Done these still,
+    λ id more some. go w (carrying b (id ∷ more)) (lists_from 0 parts (plan.Retire ∷ [])) these
+        (lists_hold (plan.Retire ∷ []) (tt, tt) 0 parts) still,
+  )
+  item_steps w b (plan.Strike there stored) rest these p i h still = go w (carrying b _) rest these h still
+  item_steps w b plan.Retire rest these p i h still = replies _ b answer.Done these (same w _ refl refl refl still)
   item_steps w b (plan.Reply a) rest these p i h still =
       replies _ b a these (same w _ refl refl refl still)
   item_steps w b _ rest these p i h still = absurd i
@@ -446,10 +478,38 @@ module _ {K V E : Type 0} (eq : K → K → Bool) (n : ℕ) (rules : Rules)
       outcomes eq (Comes Phase Fin) w n b item rest
       (item_steps w b item rest these (subst HoldsNothing (sym e) h) h.0 h.1 still)
 
+  -- the call goes on in such a phase
+  moves : (w : World K V E) (b : Call K V E) (p : List (Item K V E)) → b.rules ≡ rules → Plans w p →
+      Comes Phase Fin w (record { left = Some (record b { mode = mode.Mid; plan = p }); turn = turn.Going })
+  moves w b p these i = record { going = λ e. (_, refl, (these, i)); ends = λ h. absurd (h refl) }
+
+  maintains : (w : World K V E) (b : Call K V E) (parts : ℕ) (p : List (Item K V E)) → b.rules ≡ rules → Maintaining parts w p →
+      OnStep eq (Comes Phase Fin) w n b p
+  maintains w b parts p these (Gathering still) =
+      outcomes eq (Comes Phase Fin) w n b plan.Drain (plan.Turn ∷ plan.Apply ∷ plan.End ∷ plan.Candidates parts ∷ []) (
+        λ none. moves w b _ these (Maintains parts _ (Turning still)),
+        λ x xs some. absurd (some_owed _ xs (sym still.owes ∙ some)),
+        λ x number xs some. absurd (some_owed _ xs (sym still.owes ∙ some)),
+      )
+  maintains w b parts p these (Turning still) =
+      outcomes eq (Comes Phase Fin) w n b plan.Turn (plan.Apply ∷ plan.End ∷ plan.Candidates parts ∷ []) (
+        λ free. moves _ b _ these (Maintains parts _ (Applying (record { of_these = still.of_these; owes = still.owes }))),
+        λ taken. absurd (false≢true (sym taken ∙ ap (λ o. option_map_or (λ h. h == n) o true) still.free)),
+      )
+  maintains w b parts p these (Applying t) =
+      outcomes eq (Comes Phase Fin) w n b plan.Apply (plan.End ∷ plan.Candidates parts ∷ []) (
+        λ empty. moves w b _ these (Maintains parts _ (Ending t)),
+        λ x xs more. moves _ b _ these (Maintains parts _ (Applying (record { of_these = t.of_these; owes = t.owes }))),
+      )
+  maintains w b parts p these (Ending t) =
+      outcomes eq (Comes Phase Fin) w n b plan.End (plan.Candidates parts ∷ [])
+      (go _ b (plan.Candidates parts ∷ []) these (tt, tt) (record { of_these = t.of_these; free = refl; owes = t.owes }))
+
   steps_of : (w : World K V E) (b : Call K V E) (p : List (Item K V E)) → b.plan ≡ p →
       b.rules ≡ rules → Plans w p → OnStep eq (Comes Phase Fin) w n b p
   steps_of w b p e these (Rests q h r f o) =
       at_rest w b p e these h (record { of_these = r; free = f; owes = o })
+  steps_of w b p e these (Maintains parts q i) = maintains w b parts p these i
   steps_of w b p e these (Posted t d write rest h r f o q i) =
       more_step eq (Goes b Plans Fin) (Comes Phase Fin) (comes b these) w n b p
       (subst (λ x. OnStep eq (Goes b Plans Fin) w n x p) (sym (ap (λ x. along b b.mode x) e))

@@ -1,9 +1,9 @@
 -- Each whole event leaves a calm cache calm.
 use Rattle.std.specs.Option.{option_map, option_to_list}
-use Rattle.std.proofs.Common.{◌≡◌, ◌==◌, ◌+◌, ◌++◌, nat_lt, ℕ, zero, suc, Bool, true, false, cond, List, [], ◌∷◌, Option, Some, None, MatchBool, MatchOption, refl, sym, ap, ◌∙◌, subst}
+use Rattle.std.proofs.Common.{◌≡◌, ◌==◌, ◌+◌, ◌++◌, nat_lt, ℕ, zero, suc, Bool, true, false, cond, List, [], ◌∷◌, Option, Some, None, MatchBool, MatchOption, refl, sym, ap, ◌∙◌, subst, inl, inr}
 use Rattle.moka_hist.specs.Finite.{put_at}
 use Rattle.moka_hist.specs.State.{State, Call, DeskPart}
-use Rattle.moka_hist.specs.Plan.{Item, get_plan, held_by, hearing, insert_plan, is_disabled, iter_plan, load_plan, look, or_insert_plan, plan_of, seek, under_lock, walk_from}
+use Rattle.moka_hist.specs.Plan.{Item, get_plan, held_by, hearing, insert_plan, is_disabled, iter_plan, load_plan, look, or_insert_plan, plan_of, seek, under_lock, walk_from, pending_plan}
 use Rattle.moka_hist.specs.Plan as plan
 use Rattle.moka_hist.specs.Dropping.{dropped, owed_by, owed_with}
 use Rattle.moka_hist.specs.Telling.{is_asked, told}
@@ -26,9 +26,9 @@ use Rattle.moka_hist.specs.declared.rules.Rules.{Rules}
 use Rattle.moka_hist.specs.declared.writes.Owed.{Owed}
 use Rattle.moka_hist.specs.declared.writes.Write.{Write}
 use Rattle.moka_laws.proofs.Counting.{some_same}
-use Rattle.moka_polls.specs.Calm.{HoldsNothing, IsAtRest, IsCalm, IsWhole, CalmIsQuiet, FreshIsCalm, StaysCalm}
+use Rattle.moka_polls.specs.Calm.{HoldsNothing, IsAtRest, IsCalm, IsWhole, CalmIsQuiet, FreshIsCalm, StaysCalm, RestsWith}
 use Rattle.moka_polls.proofs.Phases.{poll_ends}
-use Rattle.moka_polls.proofs.Calming.{Phase, Fin, Rests, calm_steps, put_holds, take_out_holds}
+use Rattle.moka_polls.proofs.Calming.{Phase, Fin, Rests, calm_steps, put_holds, take_out_holds, Gathering, Maintains, Plans}
 
 pub fresh_calm : {K V E : Type 0} → FreshIsCalm K V E
 fresh_calm division rules size built unheard = record {
@@ -81,30 +81,43 @@ iter_holds : (K V E : Type 0) (b : Bool) (parts : ℕ) → HoldsNothing (iter_pl
 iter_holds K V E true parts = (tt, tt)
 iter_holds K V E false parts = walk_holds K V E 0 parts
 
+rests_no_write : {K V E : Type 0} (p : List (Item K V E)) → RestsWith p → held_by p ≡ None
+rests_no_write p (inl h) = no_write p h
+rests_no_write p (inr h) = ap held_by h.1
+
 begun_holds : {K V : Type 0} (E : Type 0) (parts : ℕ) (rules : Rules) (begun : Start K V) →
-    rules.listener ≡ false → HoldsNothing (plan_of {E = E} parts rules begun)
-begun_holds {K = K} {V = V} E parts rules (start.Get key) unheard = get_holds V E (is_disabled rules) key
+    rules.listener ≡ false → RestsWith (plan_of {E = E} parts rules begun)
+begun_holds {K = K} {V = V} E parts rules (start.Get key) unheard =
+    inl (get_holds V E (is_disabled rules) key)
 begun_holds {K = K} {V = V} E parts rules (start.Insert key value) unheard =
-    insert_holds E (is_disabled rules) rules key value unheard
+    inl (insert_holds E (is_disabled rules) rules key value unheard)
 begun_holds {K = K} {V = V} E parts rules (start.GetWith key replace) unheard =
-    load_holds V E (is_disabled rules) (seek kind.GetWith key replace)
+    inl (load_holds V E (is_disabled rules) (seek kind.GetWith key replace))
 begun_holds {K = K} {V = V} E parts rules (start.Optional key) unheard =
-    load_holds V E (is_disabled rules) (seek kind.Optional key None)
+    inl (load_holds V E (is_disabled rules) (seek kind.Optional key None))
 begun_holds {K = K} {V = V} E parts rules (start.Try key) unheard =
-    load_holds V E (is_disabled rules) (seek kind.Try key None)
+    inl (load_holds V E (is_disabled rules) (seek kind.Try key None))
 begun_holds {K = K} {V = V} E parts rules (start.OrInsert key value) unheard =
-    or_insert_holds E (is_disabled rules) key value
+    inl (or_insert_holds E (is_disabled rules) key value)
 begun_holds {K = K} {V = V} E parts rules (start.Invalidate key) unheard =
-    take_out_holds V E rules plan.To_invalidate key unheard
+    inl (take_out_holds V E rules plan.To_invalidate key unheard)
 begun_holds {K = K} {V = V} E parts rules (start.Remove key) unheard =
-    take_out_holds V E rules plan.To_remove key unheard
+    inl (take_out_holds V E rules plan.To_remove key unheard)
 begun_holds {K = K} {V = V} E parts rules (start.Evict key stamp cause) unheard =
-    subst (λ b. HoldsNothing (under_lock {V = V} {E = E} b key
-    (look (plan.To_evict key stamp cause) key))) (sym unheard) (tt, tt)
-begun_holds {K = K} {V = V} E parts rules start.InvalidateAll unheard = (tt, (tt, tt))
-begun_holds {K = K} {V = V} E parts rules (start.InvalidateIf test) unheard = (tt, tt)
-begun_holds {K = K} {V = V} E parts rules start.Iter unheard = iter_holds K V E (is_disabled rules) parts
-begun_holds {K = K} {V = V} E parts rules _ unheard = (tt, tt)
+    inl (subst (λ b. HoldsNothing (under_lock {V = V} {E = E} b key (look (plan.To_evict key stamp cause) key))) (sym unheard) (tt, tt))
+begun_holds {K = K} {V = V} E parts rules start.InvalidateAll unheard =
+    inl ((tt, (tt, tt)))
+begun_holds {K = K} {V = V} E parts rules (start.InvalidateIf test) unheard =
+    inl ((tt, tt))
+begun_holds {K = K} {V = V} E parts rules start.Iter unheard =
+    inl (iter_holds K V E (is_disabled rules) parts)
+begun_holds {K = K} {V = V} E parts rules start.Pending unheard = by (is_disabled rules)
+  where
+    by : (b : Bool) → RestsWith {K = K} {V = V} {E = E} (pending_plan b parts)
+    by true = inl (tt, tt)
+    by false = inr (parts, refl)
+begun_holds {K = K} {V = V} E parts rules _ unheard =
+    inl ((tt, tt))
 
 module _ {K V E : Type 0} (s : State K V E) (calm : IsCalm s) where
   abbrev rules : Rules
@@ -159,7 +172,7 @@ module _ {K V E : Type 0} (s : State K V E) (calm : IsCalm s) where
     free = calm.free;
     owes = ap (λ o. o ++ option_to_list (option_map (owed_with s.world.desk) (owed_by n c)))
         calm.owes ∙ ap (λ h. option_to_list (option_map (owed_with s.world.desk) (left_with h)))
-        (no_write c.plan (calm.rest n c live).plan);
+        (rests_no_write c.plan (calm.rest n c live).plan);
     rest = others (dropped s n c).calls n None refl (λ d e. absurd (cc));
   }
     where
@@ -192,13 +205,18 @@ module _ {K V E : Type 0} (s : State K V E) (calm : IsCalm s) where
   by_call n r new (Some c) e h = by_mode c.mode n c r new e h
 
   module _ (eq : K → K → Bool) where
+    rests_in : (n : ℕ) (p : List (Item K V E)) → RestsWith p → Plans eq n rules calm.unheard s.world p
+    rests_in n p (inl h) = Rests p h refl calm.free calm.owes
+    rests_in n p (inr h) = subst (Plans eq n rules calm.unheard s.world) (sym h.1)
+        (Maintains h.0 _ (Gathering (record { of_these = refl; free = calm.free; owes = calm.owes })))
+
     as_polled : (new : State K V E) (n : ℕ) (r : Reply K V E) (c : Call K V E) →
         s.calls n ≡ Some c → Happens eq Any s (event.Poll n) r new → IsCalm new
     as_polled new n r c live happens =
         let at_rest : IsAtRest rules c = calm.rest n c live in
         let e = poll_ends (Phase eq n rules calm.unheard) (Fin eq n rules calm.unheard) eq n
         (calm_steps eq n rules calm.unheard) s new c r live
-        (at_rest.rules, Rests c.plan at_rest.plan refl calm.free calm.owes) happens in
+        (at_rest.rules, rests_in n c.plan at_rest.plan) happens in
         record {
           unheard = ap (λ v. v.listener) e.3.still.of_these ∙ calm.unheard;
           free = e.3.still.free;

@@ -1,7 +1,7 @@
 -- Calm states: no call is on its way, so that each poll begins anew.
-use Rattle.std.specs.Prelude.{◌≡◌, ◌≢◌, ℕ, Bool, false, List, [], ◌∷◌, Some, None}
+use Rattle.std.specs.Prelude.{◌≡◌, ◌≢◌, ℕ, Bool, false, List, [], ◌∷◌, Some, None, ◌⊎◌}
 use Rattle.moka_hist.specs.State.{Call, Division, State, fresh, Handed}
-use Rattle.moka_hist.specs.Plan.{Item, is_disabled}
+use Rattle.moka_hist.specs.Plan.{Item, is_disabled, pending_plan}
 use Rattle.moka_hist.specs.Plan as plan
 use Rattle.moka_hist.specs.Run.{Any, Happens}
 use Rattle.moka_hist.specs.declared.events.Event.{Event}
@@ -31,11 +31,15 @@ module _ {K V E : Type 0} where
   HoldsNothing [] = Unit {0}
   HoldsNothing (item ∷ rest) = IsApart item × HoldsNothing rest
 
+  -- so does maintenance that has not begun: it will take the turn, and end it
+  abbrev pub RestsWith : List (Item K V E) → Type 0
+  RestsWith p = HoldsNothing p ⊎ ((parts : ℕ) × (p ≡ pending_plan false parts))
+
   -- a call of a cache of these rules that is not between two steps, and holds nothing
   pub record IsAtRest (these : Rules) (c : Call K V E) : Type 0 where
     pub rules : c.rules ≡ these
     pub mode : c.mode ≢ mode.Mid
-    pub plan : HoldsNothing c.plan
+    pub plan : RestsWith c.plan
 
   -- no listener is set, nobody has the maintenance turn, no write is owed, and each live call is at
   -- rest

@@ -11,7 +11,7 @@ ghost use Rattle.moka_machine.specs.NumberTest.{number_tests};
 ghost use Rattle.moka_machine.specs.Machine.{IsOut, IsValid, TakenOut};
 
 use crate::fresh::{machine_for, schedule_of};
-use moka_hist::{Event, Got, Refusal, Reply, Tests, Want};
+use moka_hist::{Event, Got, IdList, Refusal, Reply, Tests, Visit, Want};
 use moka_init::{Alone, Flow, Ground, step};
 use moka_run::{Machine, NumberTests, run};
 use moka_values::Exact;
@@ -79,6 +79,36 @@ impl<K: Eq + Hash + Exact, V: Exact, E: Exact, T: Tests<K, V> + Drop> Ground<K, 
     {
         self.accesses = self.accesses.saturating_add(1);
         self.machine.access(want)
+    }
+
+    fn retire(&mut self, ids: &IdList) -> Result<Got<K, V, E>, AllocError>
+        requires fits { AllowsEvent K.eq T.Tests self.old.machine
+            (Want.Desk (Visit.Retire ids.now)) }
+        // What it gives, and what is told then.
+        ensures gives { IfOk result (λ given.
+            OfWanted (account_of (the_table K.eq) self.old.machine.layers)
+            (Want.Desk (Visit.Retire ids.now))
+            (λ access. Gives K.eq self.old.machine.layers.call
+            (Reaches K.eq T.Tests self.old.machine) access given
+            (Reaches K.eq T.Tests self.new.machine))) }
+        ensures tells { IfOk result (λ given.
+            OfWanted (account_of (the_table K.eq) self.old.machine.layers)
+            (Want.Desk (Visit.Retire ids.now))
+            (λ access. Accesses (account_of (the_table K.eq) self.old.machine.layers) access given
+            (account_of (the_table K.eq) self.new.machine.layers))) }
+        ensures keeps { self.new.machine.calls ≡ self.old.machine.calls }
+        // Without memory.
+        ensures err { OnErr result (account_of (the_table K.eq) self.new.machine.layers
+            ≡ account_of (the_table K.eq) self.old.machine.layers) }
+        ensures err_stands { OnErr result ((w : World K V E)
+            → Reaches K.eq T.Tests self.old.machine w → Reaches K.eq T.Tests self.new.machine w) }
+        ensures err_needs { OnErr result
+            (OfWanted (account_of (the_table K.eq) self.old.machine.layers)
+            (Want.Desk (Visit.Retire ids.now))
+            (Lacks (Reaches K.eq T.Tests self.old.machine) NeedsMemory)) }
+    {
+        self.accesses = self.accesses.saturating_add(1);
+        self.machine.retire(ids)
     }
 }
 

@@ -44,8 +44,8 @@ fn made(alloc: Global, schedule: &str, report: &str) -> Result<Row, AllocError>
     })
 }
 
-/// Appends the replies, for which there is room.
-fn keep(
+/// Appends the replies.
+pub(crate) fn keep(
     replies: &mut Vec<Reply<u32, u32, u32>>,
     more: &[Reply<u32, u32, u32>],
 ) -> Result<(), AllocError> {

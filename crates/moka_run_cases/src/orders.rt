@@ -4,8 +4,8 @@ ghost use Rattle.moka_machine.specs.Machine.{IsValid};
 ghost use Rattle.moka_machine.specs.NumberTest.{number_tests};
 
 use crate::fresh::reply_to;
-use crate::walk_model::{Act, Begin, KEYS, Model, Times};
-use moka_hist::{Cause, Event, Reply, Rules, Start};
+use crate::walk_model::{Act, Begin, KEYS, Model, Seen, Times};
+use moka_hist::{Answer, Cause, Event, Refusal, Reply, Rules, Start};
 use moka_run::{Machine, NumberTests};
 use rand_core::Rng;
 use rand_pcg::Pcg32;
@@ -90,23 +90,7 @@ fn event_of(act: Act) -> Event<u32, u32, u32> {
     }
 }
 
-/// Starts the call, and polls it. Answers the reply to the poll.
-fn poll_whole(
-    alloc: Global,
-    machine: &mut Walked,
-    begin: Begin,
-) -> Result<Reply<u32, u32, u32>, AllocError>
-    requires { IsValid nat_eq number_tests machine.old }
-    ensures { IsValid nat_eq number_tests machine.new }
-{
-    let start = event_of(Act::Whole(begin));
-    match reply_to(alloc, machine, &start).ok_or(AllocError)? {
-        Reply::Call(call) => reply_to(alloc, machine, &Event::Poll { call }).ok_or(AllocError),
-        reply => Ok(reply),
-    }
-}
-
-/// Does it, and answers the reply.
+/// Does it, and answers the reply; of a call that is polled whole, that to its poll.
 fn carry_out(
     alloc: Global,
     machine: &mut Walked,
@@ -115,13 +99,41 @@ fn carry_out(
     requires { IsValid nat_eq number_tests machine.old }
     ensures { IsValid nat_eq number_tests machine.new }
 {
-    match act {
-        Act::Whole(begin) => poll_whole(alloc, machine, begin),
-        _ => reply_to(alloc, machine, &event_of(act)).ok_or(AllocError),
+    let event = event_of(act);
+    match reply_to(alloc, machine, &event).ok_or(AllocError)? {
+        Reply::Call(call) if matches!(act, Act::Whole(_)) => {
+            reply_to(alloc, machine, &Event::Poll { call }).ok_or(AllocError)
+        }
+        reply => Ok(reply),
     }
 }
 
-/// Does it on the machine and on the model. Answers whether the reply is right.
+/// Does it, and answers what is seen of the reply.
+fn seen_of(alloc: Global, machine: &mut Walked, act: Act) -> Result<Seen, AllocError>
+    requires { IsValid nat_eq number_tests machine.old }
+    ensures { IsValid nat_eq number_tests machine.new }
+{
+    let reply = carry_out(alloc, machine, act)?;
+    let seen = match &reply {
+        Reply::At => Seen::At,
+        Reply::Call(call) => Seen::Call(*call),
+        Reply::Going => Seen::Going,
+        Reply::Item(key, value) => Seen::Item(*key, *value),
+        Reply::Answer(Answer::Done) => Seen::Done,
+        Reply::Answer(Answer::Found(found)) => Seen::Found(*found),
+        Reply::Answer(Answer::Evicted) => Seen::Evicted,
+        Reply::Answer(Answer::Kept) => Seen::Kept,
+        Reply::Answer(Answer::End) => Seen::End,
+        Reply::Dropped => Seen::Dropped,
+        Reply::Refused(Refusal::UnknownCall) => Seen::UnknownCall,
+        Reply::Refused(Refusal::NotParked) => Seen::NotParked,
+        _ => Seen::Other,
+    };
+    drop(reply);
+    Ok(seen)
+}
+
+/// Does it on the machine and on the model. Answers whether what is seen is right.
 fn agrees(
     alloc: Global,
     machine: &mut Walked,
@@ -131,8 +143,8 @@ fn agrees(
     requires { IsValid nat_eq number_tests machine.old }
     ensures { IsValid nat_eq number_tests machine.new }
 {
-    let reply = carry_out(alloc, machine, act)?;
-    Ok(model.takes(act, &reply))
+    let seen = seen_of(alloc, machine, act)?;
+    Ok(model.takes(act, seen))
 }
 
 /// Carries a random order out. Answers the first act whose reply is wrong, if there is one.

@@ -1,4 +1,4 @@
-//! Worked schedules with predicates, which hide records. ` / ` parts lines.
+//! Worked schedules with predicates, which hide records, and with maintenance. ` / ` parts lines.
 
 use crate::in_memory::are_reported;
 use std::test::Fail;
@@ -118,4 +118,77 @@ const ROWS: [(&str, &str); 24] = [
 #[test]
 fn what_predicates_hide_is_reported(rt: HostRuntime) -> Result<(), Fail> {
     are_reported(&rt, &ROWS)
+}
+
+/// Schedules with maintenance, each with the report that it comes to.
+const MAINTAINED: [(&str, &str); 14] = [
+    // A predicate stays while it hides a record, and while its moment isn't past; then it leaves.
+    (
+        "cache log=8 closures / start invalidate_if 2 / poll 1 / start insert 1 4 / poll 2 / start get 1 / poll 3 / start pending / poll 4",
+        "call 1 / answer id 20ae25da-d4e2-4c53-98f9-38e12bbf69fb / call 2 / answer done / call 3 / answer none / call 4 / answer done / entry 1 4 stamp 2 at 0 / write 2 applied / test 2 at 0",
+    ),
+    (
+        "cache log=8 closures / start invalidate_if 2 / poll 1 / start insert 1 4 / poll 2 / start get 1 / poll 3 / start pending / poll 4 / at 1 / start evict 1 2 Explicit / poll 5 / start pending / poll 6",
+        "call 1 / answer id 20ae25da-d4e2-4c53-98f9-38e12bbf69fb / call 2 / answer done / call 3 / answer none / call 4 / answer done / at / call 5 / answer evicted / call 6 / answer done / write 2 applied / write 5 applied",
+    ),
+    (
+        "cache log=8 closures / start invalidate_if 2 / poll 1 / start invalidate_if 3 / poll 2 / start insert 1 4 / poll 3 / at 1 / start pending / poll 4",
+        "call 1 / answer id 20ae25da-d4e2-4c53-98f9-38e12bbf69fb / call 2 / answer id b5b235d6-0cf8-4231-89f7-1ee2b019a7da / call 3 / answer done / at / call 4 / answer done / entry 1 4 stamp 3 at 0 / write 3 applied / test 2 at 0",
+    ),
+    (
+        "cache log=8 closures / start invalidate_if 2 / poll 1 / start pending / poll 2 / start insert 1 4 / poll 3 / start get 1 / poll 4",
+        "call 1 / answer id 20ae25da-d4e2-4c53-98f9-38e12bbf69fb / call 2 / answer done / call 3 / answer done / call 4 / answer none / entry 1 4 stamp 3 at 0 / write 3 logged / test 2 at 0",
+    ),
+    // So it does where the record was written later.
+    (
+        "cache log=8 listener closures / start insert 1 4 / poll 1 / start invalidate_if 2 / poll 2 / at 1 / start insert 1 6 / poll 3 / tell 3 done / poll 3 / start get 1 / poll 4 / start pending / poll 5",
+        "call 1 / answer done / call 2 / answer id 20ae25da-d4e2-4c53-98f9-38e12bbf69fb / at / call 3 / ask listener 1 4 Replaced / told / answer done / call 4 / answer some 6 / call 5 / answer done / entry 1 6 stamp 3 at 1 / write 1 applied / write 3 applied / notice 3 1 4 Replaced ended",
+    ),
+    // It stays beside a call that took its moment before it, and has still to write.
+    (
+        "cache log=8 closures / start invalidate_if 2 / poll 1 / start insert 1 4 / step 2 / step 2 / at 1 / start pending / poll 3 / poll 2 / start get 1 / poll 4",
+        "call 1 / answer id 20ae25da-d4e2-4c53-98f9-38e12bbf69fb / call 2 / going / going / at / call 3 / answer done / answer done / call 4 / answer none / entry 1 4 stamp 2 at 0 / write 2 logged / test 2 at 0",
+    ),
+    (
+        "cache log=8 closures / start invalidate_if 2 / poll 1 / start remove 1 / step 2 / step 2 / at 1 / start pending / poll 3 / poll 2 / start pending / poll 4",
+        "call 1 / answer id 20ae25da-d4e2-4c53-98f9-38e12bbf69fb / call 2 / going / going / at / call 3 / answer done / answer none / call 4 / answer done",
+    ),
+    // A look that found its record before may show it once the predicate has left.
+    (
+        "cache log=8 closures / start insert 1 4 / poll 1 / start invalidate_if 2 / poll 2 / start get 1 / step 3 / step 3 / at 1 / start evict 1 1 Explicit / poll 4 / start pending / poll 5 / step 3",
+        "call 1 / answer done / call 2 / answer id 20ae25da-d4e2-4c53-98f9-38e12bbf69fb / call 3 / going / going / at / call 4 / answer evicted / call 5 / answer done / answer some 4 / write 1 applied / write 4 applied",
+    ),
+    // Maintenance finishes what dropped calls left, and waits for its notices.
+    (
+        "cache log=8 listener / start insert 1 5 / poll 1 / start insert 1 6 / poll 2 / drop 2 / tell 2 done / start pending / poll 3",
+        "call 1 / answer done / call 2 / ask listener 1 5 Replaced / dropped / told / call 3 / answer done / entry 1 6 stamp 2 at 0 / write 1 applied / write 2 applied / notice 2 1 5 Replaced ended",
+    ),
+    (
+        "cache log=8 listener / start insert 1 5 / poll 1 / start insert 1 6 / poll 2 / drop 2 / start pending / poll 3 / tell 2 done / poll 3",
+        "call 1 / answer done / call 2 / ask listener 1 5 Replaced / dropped / call 3 / wait / told / answer done / entry 1 6 stamp 2 at 0 / write 1 applied / write 2 applied / notice 2 1 5 Replaced ended",
+    ),
+    // It takes the turn, for which others wait.
+    (
+        "cache log=1 / start insert 1 5 / poll 1 / start pending / step 2 / step 2 / start insert 2 6 / poll 3 / start pending / poll 4",
+        "call 1 / answer done / call 2 / going / going / call 3 / wait / call 4 / wait / entry 1 5 stamp 1 at 0 / entry 2 6 stamp 3 at 0 / write 1 logged / write 3 held",
+    ),
+    // It takes so many steps: of nothing, and of a logged write, a record and a predicate.
+    (
+        "cache / start pending / step 1 / step 1 / step 1 / step 1 / step 1 / step 1",
+        "call 1 / going / going / going / going / answer done / refused UnknownCall",
+    ),
+    (
+        "cache log=8 closures / start insert 1 4 / poll 1 / start invalidate_if 2 / poll 2 / at 1 / start pending / step 3 / step 3 / step 3 / step 3 / step 3 / step 3 / step 3 / step 3 / step 3 / step 3",
+        "call 1 / answer done / call 2 / answer id 20ae25da-d4e2-4c53-98f9-38e12bbf69fb / at / call 3 / going / going / going / going / going / going / going / going / going / answer done / entry 1 4 stamp 1 at 0 / write 1 applied / test 2 at 0",
+    ),
+    // A disabled cache has nothing to maintain.
+    (
+        "cache cap=0 closures / start invalidate_if 2 / poll 1 / at 1 / start pending / step 2",
+        "call 1 / answer id 20ae25da-d4e2-4c53-98f9-38e12bbf69fb / at / call 2 / answer done / test 2 at 0",
+    ),
+];
+
+#[test]
+fn what_maintenance_does_is_reported(rt: HostRuntime) -> Result<(), Fail> {
+    are_reported(&rt, &MAINTAINED)
 }

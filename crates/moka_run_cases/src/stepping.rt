@@ -3,10 +3,12 @@ ghost use Rattle.std.specs.Prelude.{nat_eq};
 ghost use Rattle.moka_machine.specs.Machine.{IsValid};
 ghost use Rattle.moka_machine.specs.NumberTest.{number_tests};
 
-use crate::fresh::{machine_for, reply_to, schedule_of};
+use crate::fresh::{machine_for, schedule_of};
+use crate::memory::keep;
 use moka_hist::{Event, Notice, Place, Reply, Stored};
-use moka_run::{Machine, NumberTests};
+use moka_run::{Machine, NumberTests, run};
 use std::alloc::{AllocError, Global};
+use std::slice;
 use std::test::Fail;
 
 /// What a schedule came to: the replies, what is stored by key, where the writes stand, and how far
@@ -100,23 +102,58 @@ const SCHEDULES: [&str; 70] = [
     "cache cap=1 log=8 listener / start insert 1 5 / poll 1 / start insert 2 6 / poll 2 / start evict 1 1 Size / poll 3 / drop 3 / tell 3 done / start iter / poll 4 / at 1 / start invalidate_all / poll 5 / poll 4 / start iter / poll 6",
 ];
 
-/// The reply that a poll gives, by single steps, of which there are at most a hundred.
-fn reply_by_steps(
+/// Carries the event out, and keeps the reply to it.
+fn carry_out(
+    alloc: Global,
+    machine: &mut Machine<u32, u32, u32, NumberTests>,
+    event: &Event<u32, u32, u32>,
+    replies: &mut Vec<Reply<u32, u32, u32>>,
+) -> Result<(), AllocError>
+    requires { IsValid nat_eq number_tests machine.old }
+    ensures { IsValid nat_eq number_tests machine.new }
+{
+    match run(alloc, machine, slice::from_ref(event)) {
+        Ok(report) => keep(replies, report.replies.as_slice()),
+        Err(_) => Err(AllocError),
+    }
+}
+
+/// Polls the call by single steps, of which there are at most a hundred, and keeps the reply to the
+/// last.
+fn poll_by_steps(
     alloc: Global,
     machine: &mut Machine<u32, u32, u32, NumberTests>,
     call: u64,
-) -> Option<Reply<u32, u32, u32>>
+    replies: &mut Vec<Reply<u32, u32, u32>>,
+) -> Result<(), AllocError>
     requires { IsValid nat_eq number_tests machine.old }
     ensures { IsValid nat_eq number_tests machine.new }
 {
     for _step in 0..100 {
-        let reply = reply_to(alloc, machine, &Event::Step { call })?;
-        if reply != Reply::Going {
-            return Some(reply);
+        carry_out(alloc, machine, &Event::Step { call }, replies)?;
+        match replies.as_slice() {
+            [.., Reply::Going] => drop(replies.pop()),
+            _ => return Ok(()),
         }
-        drop(reply);
     }
-    None
+    Err(AllocError)
+}
+
+/// Carries the event out, a poll by single steps where so is asked, and keeps the reply to it.
+fn serve(
+    alloc: Global,
+    machine: &mut Machine<u32, u32, u32, NumberTests>,
+    event: &Event<u32, u32, u32>,
+    by_steps: bool,
+    replies: &mut Vec<Reply<u32, u32, u32>>,
+) -> Result<(), AllocError>
+    requires { IsValid nat_eq number_tests machine.old }
+    ensures { IsValid nat_eq number_tests machine.new }
+{
+    match event {
+        Event::Poll { call } if by_steps => poll_by_steps(alloc, machine, *call, replies),
+        _ => carry_out(alloc, machine, event, replies),
+    }
 }
 
 /// What the schedule comes to, its polls made by single steps where so is asked.
@@ -139,7 +176,7 @@ fn played(
 {
     let mut replies = Vec::new(alloc);
     for event in events {
-        replies.push(served(alloc, machine, event, by_steps)?)?;
+        serve(alloc, machine, event, by_steps, &mut replies)?;
     }
     let mut entries = machine.entries(alloc)?.into_vec();
     entries.sort_unstable_by_key(|entry| entry.0);
@@ -151,22 +188,6 @@ fn played(
         places,
         notices,
     })
-}
-
-fn served(
-    alloc: Global,
-    machine: &mut Machine<u32, u32, u32, NumberTests>,
-    event: &Event<u32, u32, u32>,
-    by_steps: bool,
-) -> Result<Reply<u32, u32, u32>, AllocError>
-    requires { IsValid nat_eq number_tests machine.old }
-    ensures { IsValid nat_eq number_tests machine.new }
-{
-    let reply = match event {
-        Event::Poll { call } if by_steps => reply_by_steps(alloc, machine, *call),
-        _ => reply_to(alloc, machine, event),
-    };
-    reply.ok_or(AllocError)
 }
 
 /// The first schedule that comes to something else by single steps than by polls.

@@ -2,7 +2,7 @@
 
 ghost use Rattle.std.specs.Prelude.{◌<◌};
 
-use moka_hist::{Answer, Refusal, Reply, Stored};
+use moka_hist::Stored;
 
 /// How many keys there are.
 pub const KEYS: u32 = 8;
@@ -30,6 +30,24 @@ pub enum Act {
     Step(u64),
     Poll(u64),
     Drop(u64),
+}
+
+/// A reply, as far as there is one like it here.
+#[derive(Clone, Copy, PartialEq, Debug)]
+pub enum Seen {
+    At,
+    Call(u64),
+    Going,
+    Item(u32, u32),
+    Done,
+    Found(Option<u32>),
+    Evicted,
+    Kept,
+    End,
+    Dropped,
+    UnknownCall,
+    NotParked,
+    Other,
 }
 
 /// The times of the model's records, and whether they may be evicted for want of room.
@@ -174,24 +192,24 @@ impl Model {
         }
     }
 
-    /// Takes what was done and the reply to it, that of the poll where a call was polled whole.
-    /// Answers whether the reply is right.
-    pub fn takes(&mut self, act: Act, reply: &Reply<u32, u32, u32>) -> bool {
+    /// Takes what was done and what was seen then, that of the poll where a call was polled whole.
+    /// Answers whether that is right.
+    pub fn takes(&mut self, act: Act, seen: Seen) -> bool {
         let is_right = match act {
-            Act::At(moment) => self.moves_on(moment, reply),
-            Act::Whole(begin) => *reply == Reply::Answer(self.answer(begin)),
-            Act::Walk => self.begins(reply),
-            Act::Step(call) => self.walk_moves(call, reply, false),
-            Act::Poll(call) => self.walk_moves(call, reply, true),
-            Act::Drop(call) => self.drops(call, reply),
+            Act::At(moment) => self.moves_on(moment, seen),
+            Act::Whole(begin) => seen == self.answer(begin),
+            Act::Walk => self.begins(seen),
+            Act::Step(call) => self.walk_moves(call, seen, false),
+            Act::Poll(call) => self.walk_moves(call, seen, true),
+            Act::Drop(call) => self.drops(call, seen),
         };
         self.narrow();
         is_right
     }
 
-    fn moves_on(&mut self, moment: u64, reply: &Reply<u32, u32, u32>) -> bool {
+    fn moves_on(&mut self, moment: u64, seen: Seen) -> bool {
         self.clock = moment;
-        *reply == Reply::At
+        seen == Seen::At
     }
 
     fn record(&self, key: u32) -> Option<Record> {
@@ -223,13 +241,13 @@ impl Model {
     }
 
     /// What a call answers that is polled whole.
-    fn answer(&mut self, begin: Begin) -> Answer<u32, u32, u32> {
+    fn answer(&mut self, begin: Begin) -> Seen {
         self.last = self.last.wrapping_add(1);
         match begin {
-            Begin::Get(key) => Answer::Found(self.get(key)),
+            Begin::Get(key) => Seen::Found(self.get(key)),
             Begin::Insert(key, value) => self.insert(key, value),
             Begin::Invalidate(key) => self.invalidate(key),
-            Begin::Remove(key) => Answer::Found(self.remove(key)),
+            Begin::Remove(key) => Seen::Found(self.remove(key)),
             Begin::Evict(key, stamp) => self.evict(key, stamp),
             Begin::InvalidateAll => self.invalidate_all(),
         }
@@ -245,7 +263,7 @@ impl Model {
         }
     }
 
-    fn insert(&mut self, key: u32, value: u32) -> Answer<u32, u32, u32> {
+    fn insert(&mut self, key: u32, value: u32) -> Seen {
         let record = Record {
             value,
             stamp: self.last,
@@ -253,12 +271,12 @@ impl Model {
         };
         self.access(record.stamp);
         self.store(key, Some(record));
-        Answer::Done
+        Seen::Done
     }
 
-    fn invalidate(&mut self, key: u32) -> Answer<u32, u32, u32> {
+    fn invalidate(&mut self, key: u32) -> Seen {
         self.store(key, None);
-        Answer::Done
+        Seen::Done
     }
 
     /// Takes out the record, also one that no look shows.
@@ -271,29 +289,29 @@ impl Model {
         }
     }
 
-    fn evict(&mut self, key: u32, stamp: u64) -> Answer<u32, u32, u32> {
+    fn evict(&mut self, key: u32, stamp: u64) -> Seen {
         match self.record(key) {
             Some(record) if record.stamp == stamp && self.times.is_bounded => {
                 self.store(key, None);
-                Answer::Evicted
+                Seen::Evicted
             }
-            _ => Answer::Kept,
+            _ => Seen::Kept,
         }
     }
 
-    fn invalidate_all(&mut self) -> Answer<u32, u32, u32> {
+    fn invalidate_all(&mut self) -> Seen {
         self.valid_since = self.clock;
-        Answer::Done
+        Seen::Done
     }
 
     /// A walk is started in the place of one that has ended.
-    fn begins(&mut self, reply: &Reply<u32, u32, u32>) -> bool {
+    fn begins(&mut self, seen: Seen) -> bool {
         self.last = self.last.wrapping_add(1);
         let walk = Walk::new(self.last, Stand::Begun);
         for place in 0..WALKS {
             if self.walks[place].stand == Stand::Gone {
                 self.walks[place] = walk;
-                return *reply == Reply::Call(self.last);
+                return seen == Seen::Call(self.last);
             }
         }
         false
@@ -312,13 +330,13 @@ impl Model {
     }
 
     /// The walk has made a step, or more if it was polled.
-    fn walk_moves(&mut self, call: u64, reply: &Reply<u32, u32, u32>, is_polled: bool) -> bool {
+    fn walk_moves(&mut self, call: u64, seen: Seen, is_polled: bool) -> bool {
         let place = self.place_of(call);
         let walk = self.walks[place];
         if walk.stand == Stand::Gone {
-            return *reply == Reply::Refused(Refusal::UnknownCall);
+            return seen == Seen::UnknownCall;
         }
-        let (mut next, is_right) = self.moved(self.entered(walk), reply, is_polled);
+        let (mut next, is_right) = self.moved(self.entered(walk), seen, is_polled);
         let records = self.records;
         next.seen = records;
         self.walks[place] = next;
@@ -338,15 +356,15 @@ impl Model {
     }
 
     /// The walk after its reply, and whether that is right.
-    fn moved(&self, walk: Walk, reply: &Reply<u32, u32, u32>, is_polled: bool) -> (Walk, bool) {
-        match reply {
-            Reply::Going => {
+    fn moved(&self, walk: Walk, seen: Seen, is_polled: bool) -> (Walk, bool) {
+        match seen {
+            Seen::Going => {
                 let mut walk = walk;
                 walk.stand = Stand::Between;
                 (walk, !is_polled)
             }
-            Reply::Item(key, value) => self.gave(walk, *key, *value, is_polled),
-            Reply::Answer(Answer::End) => {
+            Seen::Item(key, value) => self.gave(walk, key, value, is_polled),
+            Seen::End => {
                 let mut walk = walk;
                 walk.stand = Stand::Gone;
                 (walk, !walk.owes())
@@ -377,15 +395,15 @@ impl Model {
     }
 
     /// A walk can be dropped but for between two steps.
-    fn drops(&mut self, call: u64, reply: &Reply<u32, u32, u32>) -> bool {
+    fn drops(&mut self, call: u64, seen: Seen) -> bool {
         let place = self.place_of(call);
         let stand = self.walks[place].stand;
         match stand {
-            Stand::Gone => *reply == Reply::Refused(Refusal::UnknownCall),
-            Stand::Between => *reply == Reply::Refused(Refusal::NotParked),
+            Stand::Gone => seen == Seen::UnknownCall,
+            Stand::Between => seen == Seen::NotParked,
             _ => {
                 self.walks[place].stand = Stand::Gone;
-                *reply == Reply::Dropped
+                seen == Seen::Dropped
             }
         }
     }

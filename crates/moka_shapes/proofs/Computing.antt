@@ -67,6 +67,9 @@ module _ {K V E : Type 0} (key : K) (Other : Type 0) (May : Answer K V E → Typ
   Suits (plan.List_keys part) = ⊥
   Suits (plan.Find under) = ⊥
   Suits (plan.Scan there stored) = ⊥
+  Suits (plan.Candidates parts) = ⊥
+  Suits (plan.Strike there stored) = ⊥
+  Suits plan.Retire = ⊥
   Suits (plan.Reply a) = May a
   Suits _ = Unit {0}
 
@@ -207,6 +210,9 @@ module _ {K V E : Type 0} (key : K) (Other : Type 0) (May : Answer K V E → Typ
     on_item (plan.List_keys part) rest e q = absurd q.0
     on_item (plan.Find under) rest e q = absurd q.0
     on_item (plan.Scan there stored) rest e q = absurd q.0
+    on_item (plan.Candidates parts) rest e q = absurd q.0
+    on_item (plan.Strike there stored) rest e q = absurd q.0
+    on_item plan.Retire rest e q = absurd q.0
     on_item (plan.Reply a) rest e q = answers_so (Suits key Other May) May a _ refl refl q.0
     on_item _ rest e q = goes_suits (Suits key Other May) May (λ a may. may) c rest q.1
 
@@ -243,7 +249,7 @@ module _ {K V E : Type 0} (eq : K → K → Bool) (key : K) (Other : Type 0) (Ma
   step_suits : (c : Call K V E) (given : Got K V E) → AllSuit (Suits key Other May) c.plan → MayBeGiven eq n c given → ((t : Told V E) → given ≡ taken t → such t)
       → (given ≡ other_goes → Other) → Leaves (Suits key Other May) May (next_of n c given)
   step_suits c given suits gives tells others =
-      by_plan eq (λ w next. Leaves (Suits key Other May) May next) gives.world n c.rules c.mode c.plan c.aborts given gives.after gives.gets
+      by_plan eq (λ w next. Leaves (Suits key Other May) May next) gives.world n c.rules c.mode c.plan c.aborts c.carried given gives.after gives.gets
       (on_plan key Other May such follows c eq gives.world n suits
       (λ compute pair rest t is some. tells t (took eq n gives.world gives.after c compute pair rest given t is some gives.gets))
       (λ under rest owner is some. others (found_other eq n gives.world gives.after c under rest owner given is some gives.gets)) c.plan refl suits)

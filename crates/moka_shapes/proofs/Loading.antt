@@ -101,6 +101,9 @@ module _ {K V E : Type 0} (kind : Kind) (Judged : Type 0) (May : Answer K V E �
   Suits (plan.List_keys part) = ⊥
   Suits (plan.Find under) = ⊥
   Suits (plan.Scan there stored) = ⊥
+  Suits (plan.Candidates parts) = ⊥
+  Suits (plan.Strike there stored) = ⊥
+  Suits plan.Retire = ⊥
   Suits (plan.Reply a) = May a
   Suits _ = Unit {0}
 
@@ -218,6 +221,9 @@ module _ {K V E : Type 0} (kind : Kind) (Judged : Type 0) (May : Answer K V E �
     on_item (plan.List_keys part) rest e q = absurd q.0
     on_item (plan.Find under) rest e q = absurd q.0
     on_item (plan.Scan there stored) rest e q = absurd q.0
+    on_item (plan.Candidates parts) rest e q = absurd q.0
+    on_item (plan.Strike there stored) rest e q = absurd q.0
+    on_item plan.Retire rest e q = absurd q.0
     on_item (plan.Reply a) rest e q = answers_so (Suits kind Judged May) May a _ refl refl q.0
     on_item _ rest e q = goes_suits (Suits kind Judged May) May (λ a may. may) c rest q.1
 
@@ -271,7 +277,7 @@ module _ {K V E : Type 0} (eq : K → K → Bool) (kind : Kind) (Judged : Type 0
           subst (λ q. Leaves (Suits kind Judged May) May (next_of n (record c { plan = q }) given)) (sym looks.3)
           (look_suits kind Judged May given says c n looks.0 looks.1 looks.2 (subst (AllSuit (Suits kind Judged May)) looks.3 suits))
       split (inr acts) =
-          by_plan eq (λ w next. Leaves (Suits kind Judged May) May next) by.gives.world n c.rules c.mode c.plan c.aborts given by.gives.after by.gives.gets
+          by_plan eq (λ w next. Leaves (Suits kind Judged May) May next) by.gives.world n c.rules c.mode c.plan c.aborts c.carried given by.gives.after by.gives.gets
           (on_plan kind Judged May given says c eq by.gives.world n suits acts (took eq n by.gives.world by.gives.after c given by.gives.gets)
           (λ aim key stored rest is seen. says.judges (did_judge eq n by.gives.world by.gives.after c given by.gives.gets aim key stored rest is seen))
           (λ sought rest with is some. (did_read eq n by.gives.world by.gives.after c given by.gives.gets sought rest with is some, ends_so n by.gives.world c sought rest with by.ends is some)) c.plan refl suits)

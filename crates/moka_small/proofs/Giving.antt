@@ -295,6 +295,7 @@ module _ {K V E : Type 0} (eq : K → K → Bool) (laws : IsEquivalence eq) wher
     begins_only start.InvalidateAll live = stays_put (Begun start.InvalidateAll)
     begins_only (start.InvalidateIf test) live = stays_put (Begun (start.InvalidateIf test))
     begins_only start.Iter live = stays_put (Begun start.Iter)
+    begins_only start.Pending live = stays_put (Begun start.Pending)
 
     -- ---- an owner that ends
 

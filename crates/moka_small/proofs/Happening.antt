@@ -69,6 +69,7 @@ begun_same begin start x a b = cc
 pub plain_call : {K V E : Type 0} (parts : ℕ) (rules : Rules) (begin : Start K V) → is_plain_start begin ≡ true →
     fresh_call {K = K} {V = V} {E = E} parts rules begin ≡ fresh_call 1 rules begin
 plain_call parts rules start.Iter plain = absurd (false≢true plain)
+plain_call parts rules start.Pending plain = absurd (false≢true plain)
 plain_call parts rules _ plain = refl
 
 module _ {K V E : Type 0} (m : Small K V E) (orderly : IsOrderly m) (begin : Start K V) (plain : is_plain_start begin ≡ true) where

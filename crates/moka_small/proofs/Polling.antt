@@ -321,6 +321,7 @@ module _ {K V E : Type 0} (eq : K → K → Bool) (s new : State K V E) (m : Sma
   begins_so start.InvalidateAll live = absurd (false≢true (views.orderly.begun n _ live))
   begins_so (start.InvalidateIf test) live = absurd (false≢true (views.orderly.begun n _ live))
   begins_so start.Iter live = absurd (false≢true (views.orderly.begun n _ live))
+  begins_so start.Pending live = absurd (false≢true (views.orderly.begun n _ live))
 
   -- ---- later polls
 

@@ -128,6 +128,7 @@ module _ {K V E : Type 0} where
   begins eq m n start.InvalidateAll = (outcome.Waits, m)
   begins eq m n (start.InvalidateIf test) = (outcome.Waits, m)
   begins eq m n start.Iter = (outcome.Waits, m)
+  begins eq m n start.Pending = (outcome.Waits, m)
 
   -- a load that waits answers as its owner ended, if that has, and waits on if not
   abbrev pub reads : Small K V E → ℕ → Option (End V E) → Outcome V E × Small K V E

@@ -67,7 +67,7 @@ module _ {K V E : Type 0} where
   -- a call of a cache of these rules that has been polled, and has still this to do
   abbrev pub still : Rules → Item K V E → Call K V E
   still rules item =
-      record { rules = rules; mode = mode.Parked; plan = item ∷ []; aborts = 0 }
+      record { rules = rules; mode = mode.Parked; plan = item ∷ []; aborts = 0; carried = None }
 
   -- the call that stands there; what a plain one has to do is the same on a table of one part
   abbrev pub call_at : Rules → Stand K V E → Call K V E

@@ -64,6 +64,7 @@ is_plain_start (start.Evict key stamp cause) = true
 is_plain_start start.InvalidateAll = false
 is_plain_start (start.InvalidateIf test) = false
 is_plain_start start.Iter = false
+is_plain_start start.Pending = false
 
 module _ {K V E : Type 0} where
   -- the load that a call owns: it asks what that gives, or was told

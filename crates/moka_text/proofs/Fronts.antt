@@ -74,21 +74,24 @@ unfolding start_by
 loads bytes rest e =
     let keyed : bytes_eq bytes (codes "invalidate_all") ≡ false = ap (λ b. bytes_eq b (codes "invalidate_all")) (parted (codes "get_with ") bytes rest e) in
     let walkless : bytes_eq bytes (codes "iter") ≡ false = ap (λ b. bytes_eq b (codes "iter")) (parted (codes "get_with ") bytes rest e) in
-    let cut = fronted (codes "get_with ") (codes "get_with") bytes rest (λ b. refl) (refl, (refl, (refl, (refl, (refl, (refl, (refl, (refl, tt)))))))) e in rw (keyed, walkless, cut.0, cut.1) refl
+    let stays : bytes_eq bytes (codes "pending") ≡ false = ap (λ b. bytes_eq b (codes "pending")) (parted (codes "get_with ") bytes rest e) in
+    let cut = fronted (codes "get_with ") (codes "get_with") bytes rest (λ b. refl) (refl, (refl, (refl, (refl, (refl, (refl, (refl, (refl, tt)))))))) e in rw (keyed, walkless, stays, cut.0, cut.1) refl
 
 pub inserts : (bytes rest : List ℕ) → after (codes "insert ") bytes ≡ Some rest → start_of bytes ≡ option_map (λ p. start.Insert p.0 p.1) (pair_of rest)
 unfolding start_by
 inserts bytes rest e =
     let keyed : bytes_eq bytes (codes "invalidate_all") ≡ false = ap (λ b. bytes_eq b (codes "invalidate_all")) (parted (codes "insert ") bytes rest e) in
     let walkless : bytes_eq bytes (codes "iter") ≡ false = ap (λ b. bytes_eq b (codes "iter")) (parted (codes "insert ") bytes rest e) in
-    let cut = fronted (codes "insert ") (codes "insert") bytes rest (λ b. refl) (refl, (refl, (refl, (refl, (refl, (refl, tt)))))) e in rw (keyed, walkless, cut.0, cut.1) refl
+    let stays : bytes_eq bytes (codes "pending") ≡ false = ap (λ b. bytes_eq b (codes "pending")) (parted (codes "insert ") bytes rest e) in
+    let cut = fronted (codes "insert ") (codes "insert") bytes rest (λ b. refl) (refl, (refl, (refl, (refl, (refl, (refl, tt)))))) e in rw (keyed, walkless, stays, cut.0, cut.1) refl
 
 pub gets : (bytes rest : List ℕ) → after (codes "get ") bytes ≡ Some rest → start_of bytes ≡ option_map start.Get (u32_in rest)
 unfolding start_by
 gets bytes rest e =
     let keyed : bytes_eq bytes (codes "invalidate_all") ≡ false = ap (λ b. bytes_eq b (codes "invalidate_all")) (parted (codes "get ") bytes rest e) in
     let walkless : bytes_eq bytes (codes "iter") ≡ false = ap (λ b. bytes_eq b (codes "iter")) (parted (codes "get ") bytes rest e) in
-    let cut = fronted (codes "get ") (codes "get") bytes rest (λ b. refl) (refl, (refl, (refl, tt))) e in rw (keyed, walkless, cut.0, cut.1) refl
+    let stays : bytes_eq bytes (codes "pending") ≡ false = ap (λ b. bytes_eq b (codes "pending")) (parted (codes "get ") bytes rest e) in
+    let cut = fronted (codes "get ") (codes "get") bytes rest (λ b. refl) (refl, (refl, (refl, tt))) e in rw (keyed, walkless, stays, cut.0, cut.1) refl
 
 -- a key alone is a load without a replace test
 pub key_alone : (bytes : List ℕ) (key : ℕ) → u32_in bytes ≡ Some key → load_of bytes ≡ Some (key, None)

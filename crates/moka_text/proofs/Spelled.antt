@@ -155,6 +155,7 @@ start_read (start.Evict key stamp cause) h = rw (evict_read key stamp cause h.0 
 start_read start.InvalidateAll h = refl
 start_read (start.InvalidateIf test) h = rw (call_some test h) refl
 start_read start.Iter h = refl
+start_read start.Pending h = refl
 
 pub told_read : (t : Told ℕ ℕ) → ToldFits t → told_of (told_words t) ≡ Some t
 unfolding told_alone told_of
@@ -272,6 +273,7 @@ start_is bytes =
     let word : List ℕ = before_byte 32 bytes in
     chosen P (bytes_eq bytes (codes "invalidate_all")) _ _ (λ h. ((bytes_eq-Decides bytes (codes "invalidate_all")).0 h, tt))
     (chosen P (bytes_eq bytes (codes "iter")) _ _ (λ h. ((bytes_eq-Decides bytes (codes "iter")).0 h, tt))
+    (chosen P (bytes_eq bytes (codes "pending")) _ _ (λ h. ((bytes_eq-Decides bytes (codes "pending")).0 h, tt))
     (chosen P (bytes_eq word (codes "get")) _ _ (number_after (2 ^ 32) P start.Get (codes "get") bytes (omega arith) (λ n e h. (e, h)))
     (chosen P (bytes_eq word (codes "insert")) _ _ (after_word (λ p. decimal p.0 ++ 32 ∷ decimal p.1) (λ p. (p.0 < 2 ^ 32) × (p.1 < 2 ^ 32)) P (λ p. start.Insert p.0 p.1) (codes "insert") bytes (pair_of (after_byte 32 bytes)) (λ p h. some_spaced (decimal p.0) (decimal p.1)) (pair_is (after_byte 32 bytes)) (λ p e h. (e, h)))
     (chosen P (bytes_eq word (codes "get_with")) _ _ (after_word (λ l. decimal l.0 ++ replace_words l.1) (λ l. (l.0 < 2 ^ 32) × IfSome l.1 (λ test. test < 2 ^ 64)) P (λ l. start.GetWith l.0 l.1) (codes "get_with") bytes (load_of (after_byte 32 bytes)) (λ l h. some_load l.0 l.1 h.0) (load_is (after_byte 32 bytes)) (λ l e h. (e, h)))
@@ -285,7 +287,7 @@ start_is bytes =
     (chosen P (bytes_eq word (codes "invalidate")) _ _ (number_after (2 ^ 32) P start.Invalidate (codes "invalidate") bytes (omega arith) (λ n e h. (e, h)))
     (chosen P (bytes_eq word (codes "remove")) _ _ (number_after (2 ^ 32) P start.Remove (codes "remove") bytes (omega arith) (λ n e h. (e, h)))
     (chosen P (bytes_eq word (codes "evict")) _ _ (after_word (λ t. decimal t.0 ++ 32 ∷ chosen_words t.1.0 t.1.1) (λ t. (t.0 < 2 ^ 32) × (t.1.0 < 2 ^ 64)) P (λ t. start.Evict t.0 t.1.0 t.1.1) (codes "evict") bytes (evict_of (after_byte 32 bytes)) (λ t h. some_spaced (decimal t.0) (chosen_words t.1.0 t.1.1)) (evict_is (after_byte 32 bytes)) (λ t e h. (e, h)))
-    (chosen P (bytes_eq word (codes "invalidate_if")) _ _ (number_after (2 ^ 64) P start.InvalidateIf (codes "invalidate_if") bytes (omega arith) (λ n e h. (e, h))) tt)))))))))))))))
+    (chosen P (bytes_eq word (codes "invalidate_if")) _ _ (number_after (2 ^ 64) P start.InvalidateIf (codes "invalidate_if") bytes (omega arith) (λ n e h. (e, h))) tt))))))))))))))))
 
 pub alone_is : (bytes : List ℕ) → IfSome (told_alone bytes) (λ t. (bytes ≡ told_words t) × ToldFits t)
 unfolding told_alone
@@ -333,6 +335,7 @@ some_start (start.Evict key stamp cause) = omega arith
 some_start start.InvalidateAll = omega arith
 some_start (start.InvalidateIf test) = omega arith
 some_start start.Iter = omega arith
+some_start start.Pending = omega arith
 
 tell_is : (bytes : List ℕ) → IfSome (tell_of bytes) (λ t. (bytes ≡ decimal t.0 ++ 32 ∷ told_words t.1) × ((t.0 < 2 ^ 64) × ToldFits t.1))
 unfolding tell_of

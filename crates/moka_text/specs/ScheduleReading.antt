@@ -93,6 +93,7 @@ abbrev pub start_of : List ℕ → Option (Start ℕ ℕ)
 start_of bytes =
     if bytes_eq bytes (codes "invalidate_all") then Some start.InvalidateAll
     else if bytes_eq bytes (codes "iter") then Some start.Iter
+    else if bytes_eq bytes (codes "pending") then Some start.Pending
     else start_by (before_byte 32 bytes) (after_byte 32 bytes)
 
 -- what an ask is told by a word alone

@@ -44,6 +44,7 @@ start_words (start.Evict key stamp cause) =
 start_words start.InvalidateAll = codes "invalidate_all"
 start_words (start.InvalidateIf test) = codes "invalidate_if " ++ decimal test
 start_words start.Iter = codes "iter"
+start_words start.Pending = codes "pending"
 
 -- what an ask is told
 abbrev pub told_words : Told ℕ ℕ → List ℕ
@@ -83,6 +84,7 @@ StartFits (start.Evict key stamp cause) = (key < 2 ^ 32) × (stamp < 2 ^ 64)
 StartFits start.InvalidateAll = Unit {0}
 StartFits (start.InvalidateIf test) = test < 2 ^ 64
 StartFits start.Iter = Unit {0}
+StartFits start.Pending = Unit {0}
 
 -- errors are of 32 bits, as values are
 abbrev pub ToldFits : Told ℕ ℕ → Type 0

@@ -181,6 +181,9 @@ fn start_of(bytes: &[u8]) -> Option<Start<u32, u32>>
     if is_spelled(bytes, b"iter") {
         return Some(Start::Iter);
     }
+    if is_spelled(bytes, b"pending") {
+        return Some(Start::Pending);
+    }
     let (word, rest) = cut(bytes, b' ');
     start_by(word, rest)
 }

@@ -112,7 +112,7 @@ fn push_answer(text: &mut String, answer: &Answer<u32, u32, u32>) -> Result<(), 
         Answer::Evicted => text.push_str("answer evicted\n"),
         Answer::Kept => text.push_str("answer kept\n"),
         Answer::End => text.push_str("answer end\n"),
-        Answer::Id(id) => push_id_line(text, *id),
+        Answer::Id(id) => push_id_line(text, id.get()),
         Answer::ClosuresDisabled => text.push_str("answer disabled\n"),
         Answer::NoId => text.push_str("answer noid\n"),
     }

@@ -35,6 +35,9 @@ module _ {K V E : Type 0} where
   fits_found (visit.EndTurn n) f fits = absurd (fits)
   fits_found visit.InvalidateAll f fits = absurd (fits)
   fits_found (visit.Register test) f fits = absurd (fits)
+  fits_found visit.Candidates f fits = absurd (fits)
+  fits_found (visit.Strike ids key stored) f fits = absurd (fits)
+  fits_found (visit.Retire ids) f fits = absurd (fits)
 
   fits_form : (begun : Bool) (a : Access K V E) (g : Got K V E) → FitsWalk (want_for begun a) g → HasForm a g
   fits_form false (step.On_table o) (got.Table t) fits = tt

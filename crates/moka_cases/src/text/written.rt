@@ -1,7 +1,7 @@
 //! The lines of a report, one of each form.
 
 use moka_hist::{
-    Answer, Ask, Cause, CompResult, Entry, Notice, NoticeState, Place, Refusal, Reply, Stored,
+    Answer, Ask, Cause, CompResult, Entry, Id, Notice, NoticeState, Place, Refusal, Reply, Stored,
 };
 use moka_text::write_report;
 use std::alloc::{AllocError, Global};
@@ -130,8 +130,8 @@ fn every_form_of_a_walk_is_written(rt: HostRuntime) -> Result<(), Fail> {
 #[test]
 fn every_form_of_a_registering_is_written(rt: HostRuntime) -> Result<(), Fail> {
     let replies = [
-        Reply::Answer(Answer::Id(0x20ae25da_d4e2_4c53_98f9_38e12bbf69fb)),
-        Reply::Answer(Answer::Id(u128::MAX)),
+        Reply::Answer(Answer::Id(Id::new(0x20ae25da_d4e2_4c53_98f9_38e12bbf69fb))),
+        Reply::Answer(Answer::Id(Id::new(u128::MAX))),
         Reply::Answer(Answer::ClosuresDisabled),
         Reply::Answer(Answer::NoId),
     ];

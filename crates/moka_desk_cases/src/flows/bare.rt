@@ -7,7 +7,9 @@ ghost use Rattle.std.proofs.Common.{refl};
 ghost use Rattle.moka_desk_cases.specs.EmptyCache.{NotesOne, NotesPoll};
 
 use crate::flows::given::RULES;
-use moka_hist::{Answer, Found, Got, Start, TableAnswer, TableOp, TableTurn, Turn, Visit, Want};
+use moka_hist::{
+    Answer, Found, Got, IdList, Start, TableAnswer, TableOp, TableTurn, Turn, Visit, Want,
+};
 use moka_init::{Alone, Flow, Ground, Unfinished, poll, step};
 use moka_values::Exact;
 use std::alloc::{AllocError, Global};
@@ -196,6 +198,35 @@ impl<K: Eq + Exact, V: Exact, E: Exact> Ground<K, V, E> for Bare<K, V, E> {
     {
         self.serve(want)
     }
+
+    // No predicate is registered there.
+    fn retire(&mut self, ids: &IdList) -> Result<Got<K, V, E>, AllocError>
+        requires fits { BareAllows {E = E} self.old.undecided self.old.begun
+            (Want.Desk (Visit.Retire ids.now)) }
+        ensures gives { IfOk result (λ given. OfWanted
+            (bare_account self.old.call self.old.begun self.old.notes.items self.old.undecided)
+            (Want.Desk (Visit.Retire ids.now))
+            (λ access. Gives K.eq self.old.call (IsBare self.old.undecided) access given
+            (IsBare self.new.undecided))) }
+        ensures tells { IfOk result (λ given. OfWanted
+            (bare_account self.old.call self.old.begun self.old.notes.items self.old.undecided)
+            (Want.Desk (Visit.Retire ids.now))
+            (λ access. Accesses
+            (bare_account self.old.call self.old.begun self.old.notes.items self.old.undecided)
+            access given
+            (bare_account self.new.call self.new.begun self.new.notes.items self.new.undecided))) }
+        ensures keeps { self.new.call ≡ self.new.call }
+        ensures err { OnErr result
+            (bare_account self.new.call self.new.begun self.new.notes.items self.new.undecided
+            ≡ bare_account self.old.call self.old.begun self.old.notes.items self.old.undecided) }
+        ensures err_stands { OnErr result ((w : World K V E) → IsBare self.old.undecided w
+            → IsBare self.new.undecided w) }
+        ensures err_needs { OnErr result (OfWanted
+            (bare_account self.old.call self.old.begun self.old.notes.items self.old.undecided)
+            (Want.Desk (Visit.Retire ids.now)) (Lacks (IsBare self.old.undecided) any_access)) }
+    {
+        Err(AllocError)
+    }
 }
 
 impl<K: Eq + Exact, V: Exact, E: Exact> Alone<K, V, E> for Bare<K, V, E> {}
@@ -253,6 +284,32 @@ impl<K: Eq + Exact, V: Exact, E: Exact> Ground<K, V, E> for Shared<K, V, E> {
             (Lacks NoWorld any_access)) }
     {
         self.bare.serve(want)
+    }
+
+    fn retire(&mut self, ids: &IdList) -> Result<Got<K, V, E>, AllocError>
+        requires fits { AnyWant {K = K} {V = V} {E = E} (Want.Desk (Visit.Retire ids.now)) }
+        ensures gives { IfOk result (λ given. OfWanted (bare_account self.old.bare.call
+            self.old.bare.begun self.old.bare.notes.items self.old.bare.undecided)
+            (Want.Desk (Visit.Retire ids.now))
+            (λ access. Gives K.eq self.old.bare.call NoWorld access given NoWorld)) }
+        ensures tells { IfOk result (λ given. OfWanted (bare_account self.old.bare.call
+            self.old.bare.begun self.old.bare.notes.items self.old.bare.undecided)
+            (Want.Desk (Visit.Retire ids.now))
+            (λ access. Accesses (bare_account self.old.bare.call
+            self.old.bare.begun self.old.bare.notes.items self.old.bare.undecided) access given
+            (bare_account self.new.bare.call
+            self.new.bare.begun self.new.bare.notes.items self.new.bare.undecided))) }
+        ensures keeps { self.new.bare.call ≡ self.new.bare.call }
+        ensures err { OnErr result (bare_account self.new.bare.call
+            self.new.bare.begun self.new.bare.notes.items self.new.bare.undecided
+            ≡ bare_account self.old.bare.call
+            self.old.bare.begun self.old.bare.notes.items self.old.bare.undecided) }
+        ensures err_stands { OnErr result ((w : World K V E) → NoWorld w → NoWorld w) }
+        ensures err_needs { OnErr result (OfWanted (bare_account self.old.bare.call
+            self.old.bare.begun self.old.bare.notes.items self.old.bare.undecided)
+            (Want.Desk (Visit.Retire ids.now)) (Lacks NoWorld any_access)) }
+    {
+        Err(AllocError)
     }
 }
 

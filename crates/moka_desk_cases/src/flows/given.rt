@@ -1,8 +1,8 @@
 //! The rules of the caches, what is started, and what accesses give, by their names, of the key 3.
 
 use moka_hist::{
-    Cause, Claim, Found, Got, Op, Owed, PredicateError, Rules, Settled, Start, Stored, TableAnswer,
-    TableTurn, Told, Write,
+    Cause, Claim, Found, Got, Id, Op, Owed, PredicateError, Rules, Settled, Start, Stored,
+    TableAnswer, TableTurn, Told, Write,
 };
 
 const KEY: u32 = 3;
@@ -57,6 +57,7 @@ pub(crate) fn start_named(name: &str) -> Option<Start<u32, u32>> {
         "invalidate all" => Some(Start::InvalidateAll),
         "invalidate if" => Some(Start::InvalidateIf { test: 2 }),
         "iter" => Some(Start::Iter),
+        "pending" => Some(Start::Pending),
         "evict" => evict(2),
         "evict another" => evict(1),
         _ => load_named(name),
@@ -219,17 +220,18 @@ fn of_turns(word: &str) -> Option<Got<u32, u32, u32>> {
         "none is left" => desk(Found::ApplyOne(false)),
         "ended" => desk(Found::EndTurn),
         "invalidated" => desk(Found::InvalidateAll),
+        "retired" => desk(Found::Retire),
         _ => of_ids(word),
     }
 }
 
-fn registered(answer: Result<u128, PredicateError>) -> Option<Got<u32, u32, u32>> {
+fn registered(answer: Result<Id, PredicateError>) -> Option<Got<u32, u32, u32>> {
     desk(Found::Register(answer))
 }
 
 fn of_ids(word: &str) -> Option<Got<u32, u32, u32>> {
     match word {
-        "registered" => registered(Ok(6)),
+        "registered" => registered(Ok(Id::new(6))),
         "closures are disabled" => registered(Err(PredicateError::InvalidationClosuresDisabled)),
         "every id is registered" => registered(Err(PredicateError::NoId)),
         _ => None,

@@ -43,6 +43,9 @@ fn visit_name(visit: &Visit<u32, u32, u32>) -> &'static str {
         Visit::EndTurn { .. } => "end turn",
         Visit::InvalidateAll => "invalidate all",
         Visit::Register { .. } => "register",
+        Visit::Candidates => "candidates",
+        Visit::Strike { .. } => "strike",
+        Visit::Retire { .. } => "retire",
     }
 }
 
@@ -63,55 +66,5 @@ fn takes_name(takes: Takes) -> &'static str {
         Takes::Try => "ask try",
         Takes::Op => "ask op",
         Takes::TryOp => "ask try op",
-    }
-}
-
-pub(crate) fn turn_name(turn: &Turn<u32, u32, u32>) -> &'static str {
-    match turn {
-        Turn::Going => "going",
-        Turn::Wait => "wait",
-        Turn::Ask(ask) => ask_name(ask),
-        Turn::Answer(answer) => answer_name(answer),
-        Turn::Item(_, _) => "item",
-    }
-}
-
-fn ask_name(ask: &Ask<u32, u32>) -> &'static str {
-    match ask {
-        Ask::Init => "ask",
-        Ask::Compute(None) => "ask none",
-        Ask::Compute(Some(_)) => "ask found",
-        Ask::Listener { .. } => "ask listener",
-    }
-}
-
-fn answer_name(answer: &Answer<u32, u32, u32>) -> &'static str {
-    match answer {
-        Answer::Done => "done",
-        Answer::Found(None) => "nothing",
-        Answer::Found(Some(_)) => "found",
-        Answer::Loaded { fresh: true, .. } => "fresh",
-        Answer::Loaded { fresh: false, .. } => "loaded",
-        Answer::Nothing => "neither",
-        Answer::InitErr(_) => "error",
-        Answer::Computed(done) => done_name(done),
-        Answer::ComputeErr(_) => "compute error",
-        Answer::RetriesExhausted => "exhausted",
-        Answer::Evicted => "evicted",
-        Answer::Kept => "kept",
-        Answer::End => "end",
-        Answer::Id(_) => "id",
-        Answer::ClosuresDisabled => "disabled",
-        Answer::NoId => "no id",
-    }
-}
-
-fn done_name(done: &CompResult<u32, u32>) -> &'static str {
-    match done {
-        CompResult::Inserted(_) => "inserted",
-        CompResult::ReplacedWith(_) => "replaced",
-        CompResult::Removed(_) => "removed",
-        CompResult::Unchanged(_) => "unchanged",
-        CompResult::StillNone(_) => "still none",
     }
 }

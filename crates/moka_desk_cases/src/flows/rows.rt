@@ -5,8 +5,8 @@ ghost use Rattle.moka_init.specs.Forms.{IsFoundBy};
 ghost use Rattle.moka_desk_cases.specs.Fitting.{FitsWant};
 
 use crate::flows::given::{given, rules_named, start_named};
-use crate::flows::names::{turn_name, want_name};
-use moka_hist::{Found, Got, Turn, Visit, Want};
+use crate::flows::names::want_name;
+use moka_hist::{Answer, Ask, CompResult, Found, Got, Turn, Visit, Want};
 use moka_init::Flow;
 use std::alloc::AllocError;
 use std::process::Abort;
@@ -51,6 +51,9 @@ fn is_found_by(visit: &Visit<u32, u32, u32>, found: &Found<u32, u32>) -> bool
         Visit::EndTurn { .. } => matches!(found, Found::EndTurn),
         Visit::InvalidateAll => matches!(found, Found::InvalidateAll),
         Visit::Register { .. } => matches!(found, Found::Register(_)),
+        Visit::Candidates => matches!(found, Found::Candidates(_)),
+        Visit::Strike { .. } => matches!(found, Found::Strike(_)),
+        Visit::Retire { .. } => matches!(found, Found::Retire),
     }
 }
 
@@ -77,6 +80,47 @@ pub(crate) fn stepped(
     Ok(Some(left))
 }
 
+// One step of the flow: the name of the turn that is left where it wants this access.
+pub(crate) fn named_step(
+    flow: &mut Flow<u32, u32, u32>,
+    access: &str,
+    given: Got<u32, u32, u32>,
+) -> Result<Option<&'static str>, AllocError> {
+    let left = stepped(flow, access, given)?;
+    let name = match &left {
+        None => None,
+        Some(Turn::Going) => Some("going"),
+        Some(Turn::Wait) => Some("wait"),
+        Some(Turn::Item(_, _)) => Some("item"),
+        Some(Turn::Ask(Ask::Init)) => Some("ask"),
+        Some(Turn::Ask(Ask::Compute(None))) => Some("ask none"),
+        Some(Turn::Ask(Ask::Compute(Some(_)))) => Some("ask found"),
+        Some(Turn::Ask(Ask::Listener { .. })) => Some("ask listener"),
+        Some(Turn::Answer(Answer::Done)) => Some("done"),
+        Some(Turn::Answer(Answer::Found(None))) => Some("nothing"),
+        Some(Turn::Answer(Answer::Found(Some(_)))) => Some("found"),
+        Some(Turn::Answer(Answer::Loaded { fresh: true, .. })) => Some("fresh"),
+        Some(Turn::Answer(Answer::Loaded { fresh: false, .. })) => Some("loaded"),
+        Some(Turn::Answer(Answer::Nothing)) => Some("neither"),
+        Some(Turn::Answer(Answer::InitErr(_))) => Some("error"),
+        Some(Turn::Answer(Answer::Computed(CompResult::Inserted(_)))) => Some("inserted"),
+        Some(Turn::Answer(Answer::Computed(CompResult::ReplacedWith(_)))) => Some("replaced"),
+        Some(Turn::Answer(Answer::Computed(CompResult::Removed(_)))) => Some("removed"),
+        Some(Turn::Answer(Answer::Computed(CompResult::Unchanged(_)))) => Some("unchanged"),
+        Some(Turn::Answer(Answer::Computed(CompResult::StillNone(_)))) => Some("still none"),
+        Some(Turn::Answer(Answer::ComputeErr(_))) => Some("compute error"),
+        Some(Turn::Answer(Answer::RetriesExhausted)) => Some("exhausted"),
+        Some(Turn::Answer(Answer::Evicted)) => Some("evicted"),
+        Some(Turn::Answer(Answer::Kept)) => Some("kept"),
+        Some(Turn::Answer(Answer::End)) => Some("end"),
+        Some(Turn::Answer(Answer::Id(_))) => Some("id"),
+        Some(Turn::Answer(Answer::ClosuresDisabled)) => Some("disabled"),
+        Some(Turn::Answer(Answer::NoId)) => Some("no id"),
+    };
+    drop(left);
+    Ok(name)
+}
+
 // One step of the flow, by the word for what the access gives: the turn that is left where the flow
 // wants this access.
 pub(crate) fn turn_after(
@@ -98,13 +142,9 @@ fn goes(flow: &mut Flow<u32, u32, u32>, row: &str) -> Result<bool, AllocError> {
     let Some((word, turn)) = rest.split_once(" / ") else {
         return Ok(false);
     };
-    match turn_after(flow, access, word)? {
+    match given(access, word) {
         None => Ok(false),
-        Some(left) => {
-            let is_so = turn_name(&left) == turn;
-            drop(left);
-            Ok(is_so)
-        }
+        Some(given) => Ok(named_step(flow, access, given)? == Some(turn)),
     }
 }
 

@@ -1,7 +1,6 @@
 //! How whole walks read, access by access, over a table of two parts.
 
-use crate::flows::names::turn_name;
-use crate::flows::rows::{fresh, plays, run_all, stepped};
+use crate::flows::rows::{fresh, named_step, plays, run_all};
 use moka_hist::{Got, KeyList, TableAnswer, TableTurn};
 use moka_init::Flow;
 use std::alloc::{AllocError, Global};
@@ -16,8 +15,8 @@ fn listed(alloc: Global, many: u32) -> Result<Got<u32, u32, u32>, AllocError> {
     Ok(Got::Table(TableTurn::Decided(answer)))
 }
 
-// Whether the flow makes this list, and has this turn once that has given so many keys.
-fn lists(
+/// Whether the flow makes this list, and has this turn once that has given so many keys.
+pub(crate) fn lists(
     flow: &mut Flow<u32, u32, u32>,
     alloc: Global,
     access: &str,
@@ -25,14 +24,8 @@ fn lists(
     turn: &str,
 ) -> Result<bool, AllocError> {
     let given = listed(alloc, many)?;
-    match stepped(flow, access, given)? {
-        None => Ok(false),
-        Some(left) => {
-            let is_so = turn_name(&left) == turn;
-            drop(left);
-            Ok(is_so)
-        }
-    }
+    let left = named_step(flow, access, given)?;
+    Ok(left == Some(turn))
 }
 
 // Whether a walk over three keys of the first part and one of the other goes as it should. Of these

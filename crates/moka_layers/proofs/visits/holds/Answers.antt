@@ -9,7 +9,7 @@ pub returns-clause-visit : goal.returns-clause-visit
 returns-clause-visit g c = λ ids. record {
   form = (c.holds.result, refl);
   made = λ w h handed may.
-      let stored = c.args.stored.now in (
+      let stored = c.args.stored in (
         ap found.Holds (c.holds.ensures w h ∙ ap (λ b. chosen_holds w.rules (times_at w stored.stamp stored.modified) b c.args.cause) (c.hits-hit.ensures w h handed.predicates)),
         h,
         handed,

@@ -10,8 +10,8 @@ pub returns-clause-ok : goal.returns-clause-ok
 returns-clause-ok g c = λ ids. record {
   form = (c.in_ok-seen.seen, refl);
   made = λ w h handed may.
-      let stored = c.args.stored.now in
-      let seen = seen_by w (g.Q.Tests.answers c.args.tests.now) c.args.replace c.args.key.now stored c.is_replaced-replaced.result c.hits-hit.result handed.tests c.is_replaced-replaced.ensures
+      let stored = c.args.stored in
+      let seen = seen_by w (g.Q.Tests.answers c.args.tests.now) c.args.replace c.args.key stored c.is_replaced-replaced.result c.hits-hit.result handed.tests c.is_replaced-replaced.ensures
       (c.hits-hit.ensures w h handed.predicates) in (
         ap found.Judge (c.in_ok-seen.ensures.finds w h ∙ seen),
         subst (λ b. StandsFor g.K.PartialEq.eq c.judge.new.self (judged w stored.stamp stored.modified b)) seen (c.in_ok-seen.ensures.makes w h),

@@ -105,6 +105,17 @@ returns-in-Register-clause-ok g c =
     (handed_by g.Q.Tests c.args.tests.now (ids_of c.register.new.ids))
     (IfOk-weaker c.register.result _ _ (λ f made. made handed) c.register.ensures.ok)
 
+pub returns-in-Candidates-clause-ok : goal.returns-in-Candidates-clause-ok
+returns-in-Candidates-clause-ok g c = may_make g.K.PartialEq.eq c.args.desk.now _ _ c.in-Candidates.is (handed_by g.Q.Tests c.args.tests.now (ids_of c.args.ids.now)) c.candidates.new.desk c.candidates.result refl c.candidates.ensures.ok
+
+pub returns-in-Strike-clause-ok : goal.returns-in-Strike-clause-ok
+returns-in-Strike-clause-ok g c =
+    let handed = handed_by g.Q.Tests c.args.tests.now (ids_of c.args.ids.now) in
+    by_handed g.K.PartialEq.eq c.args.desk.now _ _ c.in-Strike.is handed c.strike.new.desk c.strike.result handed (c.strike.ensures.visit (ids_of c.args.ids.now))
+
+pub returns-in-Retire-clause-ok : goal.returns-in-Retire-clause-ok
+returns-in-Retire-clause-ok g c = by_desk g.K.PartialEq.eq c.args.desk.now _ _ c.in-Retire.is (handed_by g.Q.Tests c.args.tests.now (ids_of c.args.ids.now)) c.retire.new.desk c.retire.result refl c.retire.ensures.visit
+
 pub returns-in-Judge-clause-form : goal.returns-in-Judge-clause-form
 returns-in-Judge-clause-form g c =
     let handed = handed_by g.Q.Tests c.args.tests.now (ids_of c.args.ids.now) in
@@ -127,3 +138,8 @@ returns-in-Register-clause-form g c =
     may_have_form g.K.PartialEq.eq c.args.desk.now _ _ c.in-Register.is handed c.register.new.desk c.register.result
     (handed_by g.Q.Tests c.args.tests.now (ids_of c.register.new.ids))
     (IfOk-weaker c.register.result _ _ (λ f made. made handed) c.register.ensures.ok)
+
+pub returns-in-Strike-clause-form : goal.returns-in-Strike-clause-form
+returns-in-Strike-clause-form g c =
+    let handed = handed_by g.Q.Tests c.args.tests.now (ids_of c.args.ids.now) in
+    form_by g.K.PartialEq.eq c.args.desk.now _ _ c.in-Strike.is handed c.strike.new.desk c.strike.result handed (c.strike.ensures.visit (ids_of c.args.ids.now))

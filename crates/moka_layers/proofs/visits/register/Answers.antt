@@ -68,7 +68,12 @@ module _ {K V E : Type 0} {same : PartialEq.Ghosts K} {hash : Hash.Ghosts K} whe
 pub returns-in-Ok-clause-ok : goal.returns-in-Ok-clause-ok
 returns-in-Ok-clause-ok g c =
     let is = c.in-Ok.ensures in
-    registers_so g.K.PartialEq.eq c.args.desk.now (ids_of c.args.ids.now) c.args.test c.register.new.self (ids_of c.register.new.ids) (Ok c.in-Ok.id) is.finds is.makes is.draws
+    let eq = g.K.PartialEq.eq in
+    let old = c.args.desk.now in
+    let before = ids_of c.args.ids.now in
+    let left = ids_of c.register.new.ids in
+    subst (λ id. Registers eq old before c.args.test c.register.new.self left (found.Register (Ok id))) (sym c.new.ensures)
+    (registers_so eq old before c.args.test c.register.new.self left (Ok c.in-Ok.id) is.finds is.makes is.draws)
 
 pub returns-in-Err-clause-ok : goal.returns-in-Err-clause-ok
 returns-in-Err-clause-ok g c =

@@ -8,7 +8,7 @@ pub returns-clause-visit : goal.returns-clause-visit
 returns-clause-visit g c = λ ids. record {
   form = (c.scan.result, refl);
   made = λ w h handed may.
-      let stored = c.args.stored.now in (
+      let stored = c.args.stored in (
         ap found.Scan (c.scan.ensures w h ∙ ap (λ b. is_shown w b stored.stamp stored.modified) (c.hits-hit.ensures w h handed.predicates)),
         h,
         handed,

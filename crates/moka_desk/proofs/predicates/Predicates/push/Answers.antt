@@ -1,19 +1,16 @@
-use Rattle.std.proofs.Common.{◌≡◌, ◌∷◌, [], ◌++◌, ◌==◌, ◌||◌, Bool, true, false, cond, refl, sym, ap, ◌∙◌}
-use Rattle.std.proofs.lemmas.List.Folds.{list_any-append}
+use Rattle.std.proofs.Common.{◌≡◌, ◌∷◌, [], ◌++◌, ◌==◌, None, Some, cond, sym, ap, ◌∙◌}
+use Rattle.moka_desk.specs.Predicates.{registered_under}
+use Rattle.moka_desk.proofs.OwnIds.{own_push, under_push}
 use Rattle.moka_desk.proofs.Timely.{timely_push}
 use Rattle.moka_desk.proofs.predicates.Predicates.push.Goals as goal
 
-added : (this was : Bool) → cond this true was ≡ (was || (this || false))
-added true true = refl
-added true false = refl
-added false true = refl
-added false false = refl
-
 pub returns : goal.returns
 returns c = λ p h now.
+    let one = c.args.one in
+    let free : registered_under p.registered one.id ≡ None = sym (h.ids one.id) ∙ c.requires.free in
     record {
-      registered = c.push_reserved.ensures.items ∙ ap (λ rs. rs ++ c.args.one ∷ []) h.registered;
-      ids = λ id. c.in-Ok.ensures.updates.0 id ∙ added (c.args.one.id == id) _ ∙ ap (λ was. was || ((c.args.one.id == id) || false)) (h.ids id)
-          ∙ sym (list_any-append (λ r. r.id == id) p.registered (c.args.one ∷ []));
-      timely = timely_push p.clock p.registered c.args.one h.timely now;
+      registered = c.push_reserved.ensures.items ∙ ap (λ rs. rs ++ one ∷ []) h.registered;
+      ids = λ id. c.in-Ok.ensures.updates.0 id ∙ ap (cond (one.id == id) (Some one)) (h.ids id) ∙ sym (under_push p.registered one id free);
+      once = own_push p.registered one h.once free;
+      timely = timely_push p.clock p.registered one h.timely now;
     }

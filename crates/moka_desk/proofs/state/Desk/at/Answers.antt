@@ -18,6 +18,7 @@ returns-clause-makes g c = λ w h.
       predicates = record {
         registered = h.predicates.registered;
         ids = h.predicates.ids;
+        once = h.predicates.once;
         timely = timely_on w.clock moment w.registered on h.predicates.timely;
       };
       accessed = h.accessed;

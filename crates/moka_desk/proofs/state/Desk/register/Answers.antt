@@ -1,6 +1,4 @@
-use Rattle.std.proofs.Common.{◌≡◌, ℕ, suc, true, List, sym, ap, subst, ◌∙◌}
-use Rattle.std.specs.Option.{option_map_or}
-use Rattle.moka_hist.specs.Visits.{next_free}
+use Rattle.std.proofs.Common.{◌≡◌, true, List, sym, ap, subst, ◌∙◌}
 use Rattle.moka_hist.specs.declared.predicates.Registered.{Registered}
 use Rattle.moka_hist.specs.declared.rules.Rules.{Rules}
 use Rattle.moka_desk.specs.Predicates.{predicate_part, PredicatesAre}
@@ -120,3 +118,6 @@ returns-clause-misses g c = λ w h m. record {
   locks = m.locks;
   notices = m.notices;
 }
+
+pub push-requires-clause-free : goal.push-requires-clause-free
+push-requires-clause-free g c = c.in-Some.ensures.unused

@@ -31,3 +31,6 @@ returns-in-Computing-clause-ok g c = may_need c.args.self.now _ c.in-Computing.i
 
 pub returns-in-Computing-clause-err : goal.returns-in-Computing-clause-err
 returns-in-Computing-clause-err g c = claims c.args.self.now _ c.in-Computing.is _ c.computing_need.ensures.err
+
+pub returns-in-Maintaining-clause-ok : goal.returns-in-Maintaining-clause-ok
+returns-in-Maintaining-clause-ok g c = needs c.args.self.now _ c.in-Maintaining.is _ c.maintaining_need.ensures

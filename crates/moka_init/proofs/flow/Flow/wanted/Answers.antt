@@ -1,5 +1,5 @@
 -- What the flow wants is what its point wants.
-use Rattle.moka_init.proofs.AtPoint.{wants, copies}
+use Rattle.moka_init.proofs.AtPoint.{all_copies, copies, wants}
 use Rattle.moka_init.proofs.flow.Flow.wanted.Goals as goal
 
 pub returns-in-Looking-clause-want : goal.returns-in-Looking-clause-want
@@ -43,3 +43,9 @@ returns-in-Walking-clause-want g c = wants c.args.self.now _ c.in-Walking.is _ c
 
 pub returns-in-Walking-clause-err : goal.returns-in-Walking-clause-err
 returns-in-Walking-clause-err g c = copies c.args.self.now _ c.in-Walking.is _ c.want_walking.ensures.err
+
+pub returns-in-Maintaining-clause-want : goal.returns-in-Maintaining-clause-want
+returns-in-Maintaining-clause-want g c = wants c.args.self.now _ c.in-Maintaining.is _ c.want_maintaining.ensures.want
+
+pub returns-in-Maintaining-clause-err : goal.returns-in-Maintaining-clause-err
+returns-in-Maintaining-clause-err g c = all_copies c.args.self.now _ c.in-Maintaining.is _ c.want_maintaining.ensures.err

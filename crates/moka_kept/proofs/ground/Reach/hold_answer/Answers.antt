@@ -38,6 +38,7 @@ returns-clause-kept g c =
         one_locker = sound.one_locker;
         locks = sound.locks;
         locked = sound.locked;
+        one_id = sound.one_id;
       };
       log = kept.log;
       decided = kept.decided;
