@@ -60,10 +60,7 @@ pub(crate) fn of_map<R: Wait>(
 fn one<R: Wait>(rt: &R, map: &Map, is_put: bool, key: u64, value: u64) -> bool {
     let mut pairs = map.lock(rt);
     if is_put {
-        return match pairs.insert(key, value) {
-            Ok(before) => before.is_some(),
-            Err(_) => false,
-        };
+        return matches!(pairs.insert(key, value), Ok(Some(_)));
     }
     pairs.contains_key(&key)
 }

@@ -7,8 +7,9 @@ mod rows;
 mod together;
 mod visits;
 
-use crate::asked::Asked;
-use crate::tables::{Deed, on_both, on_both_of_one_part};
+use crate::peers::Peer;
+use crate::tables::{Deed, Fold, on_both};
+use crate::zeros::Zero;
 pub(crate) use alone::one_seat;
 pub(crate) use memory::fill;
 use std::alloc::{AllocError, Global};
@@ -21,36 +22,41 @@ pub(crate) use together::{all_meet, all_together};
 pub(crate) fn are_right<R: Threads + Wait + Clock + Print + Eprint + Sync>(
     rt: &R,
     alloc: Global,
-    asked: &Asked,
+    peer: Peer,
 ) -> bool {
-    let memory = !asked.memory || told(rt, "memory", on_both(rt, alloc, Deed::Memory));
-    let others = !asked.cases || others_are_right(rt, alloc);
-    memory && others
+    match peer {
+        Peer::Memory => memory_is_right(rt, alloc),
+        Peer::Cases | Peer::All => all_are_right(rt, alloc),
+        Peer::Parts | Peer::Named | Peer::Map | Peer::Nothing => true,
+    }
 }
 
-/// Tries the cases in which no memory may be refused.
-fn others_are_right<R: Threads + Wait + Clock + Print + Eprint + Sync>(
+/// Tries the case in which memory may be refused.
+fn memory_is_right<R: Threads + Wait + Clock + Print + Eprint + Sync>(
     rt: &R,
     alloc: Global,
 ) -> bool {
-    let seats = told(rt, "seats", on_both(rt, alloc, Deed::Seats));
-    let part = told(rt, "part", on_both_of_one_part(rt, alloc));
-    let share = told(rt, "share", on_both(rt, alloc, Deed::Share));
-    let meet = told(rt, "meet", on_both(rt, alloc, Deed::Meet));
+    told(rt, "memory", on_both::<Fold, R>(rt, alloc, Deed::Memory))
+}
+
+/// Tries all cases.
+fn all_are_right<R: Threads + Wait + Clock + Print + Eprint + Sync>(rt: &R, alloc: Global) -> bool {
+    let memory = memory_is_right(rt, alloc);
+    let seats = told(rt, "seats", on_both::<Fold, R>(rt, alloc, Deed::Seats));
+    let part = told(rt, "part", on_both::<Zero, R>(rt, alloc, Deed::Seats));
+    let share = told(rt, "share", on_both::<Fold, R>(rt, alloc, Deed::Share));
+    let meet = told(rt, "meet", on_both::<Fold, R>(rt, alloc, Deed::Meet));
     let hall = told(rt, "hall", hall::are_booked_once(rt, alloc));
     let visits = told(rt, "visits", visits::are_all_counted(rt, alloc));
-    seats && part && share && meet && hall && visits
+    memory && seats && part && share && meet && hall && visits
 }
 
 /// Prints how the case of this name came out, and answers whether it came out right. Of one whose
 /// table got no memory nothing is printed.
 fn told<R: Print>(rt: &R, name: &str, outcome: Result<bool, AllocError>) -> bool {
-    match outcome {
-        Ok(true) => println!(rt; "{name} right").is_ok(),
-        Ok(false) => {
-            let _told = println!(rt; "{name} wrong");
-            false
-        }
-        Err(_) => false,
-    }
+    let Ok(is_right) = outcome else {
+        return false;
+    };
+    let how = if is_right { "right" } else { "wrong" };
+    println!(rt; "{name} {how}").is_ok() && is_right
 }

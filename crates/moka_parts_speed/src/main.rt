@@ -9,6 +9,7 @@
 mod asked;
 mod calls;
 mod cases;
+mod peers;
 mod tables;
 mod timed;
 mod totals;
@@ -16,32 +17,49 @@ mod works;
 mod zeros;
 
 use asked::Asked;
+use peers::Peer;
 use std::alloc::{AllocError, Global};
 use std::process::ExitCode;
 use std::rt::Clock;
 use std::sync::Wait;
 use std::thread::Threads;
-use tables::Deed;
+use tables::{Deed, Fold, on_named, on_parts};
+use timed::time_map;
 
 fn main(rt: HostRuntime) -> ExitCode {
     let Ok(asked) = Asked::read(&rt) else {
         return ExitCode::FAILURE;
     };
     let are_timed = measure(&rt, rt.alloc(), &asked).unwrap_or(false);
-    if cases::are_right(&rt, rt.alloc(), &asked) && are_timed {
+    if cases::are_right(&rt, rt.alloc(), asked.peer) && are_timed {
         return ExitCode::SUCCESS;
     }
     ExitCode::FAILURE
 }
 
-/// Times the peers that are asked for. Answers whether the times could be told.
+/// Times what is asked for. Answers whether the times could be told.
 fn measure<R: Threads + Wait + Clock + Print + Eprint + Sync>(
     rt: &R,
     alloc: Global,
     asked: &Asked,
 ) -> Result<bool, AllocError> {
-    let parts = !asked.parts || tables::on_parts(rt, alloc, Deed::Time(*asked))?;
-    let named = !asked.named || tables::on_named(rt, alloc, Deed::Time(*asked))?;
-    let map = !asked.map || timed::time_map(rt, alloc, asked);
-    Ok(parts && named && map)
+    let time = Deed::Time(*asked);
+    match asked.peer {
+        Peer::Parts => on_parts::<Fold, R>(rt, alloc, time),
+        Peer::Named => on_named::<Fold, R>(rt, alloc, time),
+        Peer::Map => Ok(time_map(rt, alloc, asked)),
+        Peer::All => measure_all(rt, alloc, asked),
+        Peer::Memory | Peer::Cases | Peer::Nothing => Ok(true),
+    }
+}
+
+/// Times all peers, one after the other.
+fn measure_all<R: Threads + Wait + Clock + Print + Eprint + Sync>(
+    rt: &R,
+    alloc: Global,
+    asked: &Asked,
+) -> Result<bool, AllocError> {
+    let parts = on_parts::<Fold, R>(rt, alloc, Deed::Time(*asked))?;
+    let named = on_named::<Fold, R>(rt, alloc, Deed::Time(*asked))?;
+    Ok(time_map(rt, alloc, asked) && parts && named)
 }

@@ -4,19 +4,22 @@ ghost use Rattle.std.specs.Prelude.{◌≡◌, ℕ};
 use crate::asked::Asked;
 use crate::cases::{all_meet, all_together, fill, one_seat};
 use crate::timed::time_table;
-use crate::zeros::BuildZero;
-use moka_parts::{Anything, NamedParts, Naming, OpenBook, Parts, SharedTable};
+use moka_parts::{NamedParts, Naming, OpenBook, Parts, SharedTable};
 use std::alloc::{AllocError, Global};
-use std::hash::{BuildHasherDefault, FoldHasher};
+use std::hash::{BuildHasherDefault, FoldHasher, Hasher};
 use std::marker::Brand;
 use std::rt::Clock;
 use std::sync::Wait;
 use std::thread::Threads;
 
-type Fold = BuildHasherDefault<FoldHasher>;
+/// Std's hasher.
+pub(crate) type Fold = FoldHasher;
 
-/// A table without a name, by std's hasher.
-pub(crate) type Plain = Parts<u64, u64, Fold>;
+/// A table without a name, whose keys are hashed by H.
+pub(crate) type Plain<H> = Parts<u64, u64, BuildHasherDefault<H>>;
+
+/// A table whose history has the name J.
+type Called<H, J> = NamedParts<u64, u64, BuildHasherDefault<H>, J>;
 
 /// What is done with a new table.
 #[derive(Clone, Copy)]
@@ -34,87 +37,68 @@ pub(crate) enum Deed {
 }
 
 impl Deed {
-    /// Does it with a new table of this name, and tells whether it came out right.
+    /// Does it with a new table of this name, lets the table go, and tells whether it came out right.
     fn holds<
         Q: Drop + Send,
-        T: SharedTable<u64, u64, Seat = Q> + Sync,
+        T: SharedTable<u64, u64, Seat = Q> + Sync + Drop,
         R: Threads + Wait + Clock + Print + Eprint + Sync,
-    >(self, rt: &R, alloc: Global, name: &str, table: &T) -> Result<bool, AllocError>
+    >(self, rt: &R, alloc: Global, name: &str, table: T) -> bool
         requires { (k v : ℕ) → T.holds k v }
     {
         match self {
-            Deed::Seats => one_seat(rt, alloc, table),
-            Deed::Memory => Ok(fill(rt, alloc, table).unwrap_or(false)),
-            Deed::Share => all_together(rt, alloc, table),
-            Deed::Meet => all_meet(rt, alloc, table),
-            Deed::Time(asked) => Ok(time_table(rt, alloc, name, table, &asked)),
+            Deed::Seats => one_seat(rt, alloc, &table),
+            Deed::Memory => fill(rt, alloc, &table),
+            Deed::Share => all_together(rt, alloc, &table),
+            Deed::Meet => all_meet(rt, alloc, &table),
+            Deed::Time(asked) => time_table(rt, alloc, name, &table, &asked),
         }
     }
 }
 
 /// Does it with a table of each kind.
-pub(crate) fn on_both<R: Threads + Wait + Clock + Print + Eprint + Sync>(
-    rt: &R,
-    alloc: Global,
-    deed: Deed,
-) -> Result<bool, AllocError> {
-    Ok(on_parts(rt, alloc, deed)? && on_named(rt, alloc, deed)?)
+pub(crate) fn on_both<
+    H: Hasher + Default + Copy + Send + Sync,
+    R: Threads + Wait + Clock + Print + Eprint + Sync,
+>(rt: &R, alloc: Global, deed: Deed) -> Result<bool, AllocError> {
+    if on_parts::<H, R>(rt, alloc, deed)? {
+        return on_named::<H, R>(rt, alloc, deed);
+    }
+    Ok(false)
 }
 
 /// A table without a name.
-pub(crate) fn new_parts(alloc: Global) -> Result<Plain, AllocError> {
+pub(crate) fn new_parts<H: Hasher + Default + Copy>(alloc: Global) -> Result<Plain<H>, AllocError> {
     Parts::new(alloc, BuildHasherDefault::new())
 }
 
 /// Does it with a table without a name.
-pub(crate) fn on_parts<R: Threads + Wait + Clock + Print + Eprint + Sync>(
-    rt: &R,
-    alloc: Global,
-    deed: Deed,
-) -> Result<bool, AllocError> {
-    let table = new_parts(alloc)?;
-    deed.holds(rt, alloc, "parts", &table)
+pub(crate) fn on_parts<
+    H: Hasher + Default + Copy + Send + Sync,
+    R: Threads + Wait + Clock + Print + Eprint + Sync,
+>(rt: &R, alloc: Global, deed: Deed) -> Result<bool, AllocError> {
+    Ok(deed.holds(rt, alloc, "parts", new_parts::<H>(alloc)?))
 }
 
 /// Does it with a table whose history has a name.
-pub(crate) fn on_named<R: Threads + Wait + Clock + Print + Eprint + Sync>(
-    rt: &R,
-    alloc: Global,
-    deed: Deed,
-) -> Result<bool, AllocError> {
-    on_book::<Brand, _>(rt, alloc, OpenBook::new(BuildHasherDefault::new()), deed)
+pub(crate) fn on_named<
+    H: Hasher + Default + Copy + Send + Sync,
+    R: Threads + Wait + Clock + Print + Eprint + Sync,
+>(rt: &R, alloc: Global, deed: Deed) -> Result<bool, AllocError> {
+    on_book::<H, Brand, R>(rt, alloc, OpenBook::new(BuildHasherDefault::new()), deed)
 }
 
-fn on_book<J: Naming + Send + Sync, R: Threads + Wait + Clock + Print + Eprint + Sync>(
+fn on_book<
+    H: Hasher + Default + Copy + Send + Sync,
+    J: Naming + Send + Sync,
+    R: Threads + Wait + Clock + Print + Eprint + Sync,
+>(
     rt: &R,
     alloc: Global,
-    book: OpenBook<u64, u64, Fold>,
+    book: OpenBook<u64, u64, BuildHasherDefault<H>>,
     deed: Deed,
 ) -> Result<bool, AllocError>
     requires { book.0 ≡ J.book }
 {
-    let table: NamedParts<u64, u64, Fold, J, Anything> = NamedParts::new(alloc, book)?;
-    deed.holds(rt, alloc, "named", &table)
-}
-
-/// Tries one caller on a table of each kind, all of whose keys are of one part.
-pub(crate) fn on_both_of_one_part<R: Wait>(rt: &R, alloc: Global) -> Result<bool, AllocError> {
-    let named = on_book_of_one_part::<Brand, _>(rt, alloc, OpenBook::new(BuildZero {}))?;
-    Ok(named && on_parts_of_one_part(rt, alloc)?)
-}
-
-fn on_parts_of_one_part<R: Wait>(rt: &R, alloc: Global) -> Result<bool, AllocError> {
-    let table: Parts<u64, u64, BuildZero, Anything> = Parts::new(alloc, BuildZero {})?;
-    one_seat(rt, alloc, &table)
-}
-
-fn on_book_of_one_part<J: Naming, R: Wait>(
-    rt: &R,
-    alloc: Global,
-    book: OpenBook<u64, u64, BuildZero>,
-) -> Result<bool, AllocError>
-    requires { book.0 ≡ J.book }
-{
-    let table: NamedParts<u64, u64, BuildZero, J, Anything> = NamedParts::new(alloc, book)?;
-    one_seat(rt, alloc, &table)
+    let table: Called<H, J> = NamedParts::new(alloc, book)?;
+    Ok(deed.holds(rt, alloc, "named", table))
 }

@@ -31,42 +31,59 @@ pub(crate) fn time_table<
         asked,
         &|number| of_table(rt, table, work, keys, number as u64, calls),
     )
-    .is_ok()
 }
 
-/// Fills std's map, and times the calls of all threads. Answers whether the time could be told.
+/// Times the calls of std's map. Answers whether the time could be told.
 pub(crate) fn time_map<R: Threads + Wait + Clock + Print + Eprint + Sync>(
     rt: &R,
     alloc: Global,
     asked: &Asked,
 ) -> bool {
     let map: Map = Mutex::new(HashMap::new(alloc));
+    let is_told = time_lent(rt, alloc, asked, &map);
+    drop(map);
+    is_told
+}
+
+/// Fills the map, and times the calls of all threads. Answers whether the time could be told.
+fn time_lent<R: Threads + Wait + Clock + Print + Eprint + Sync>(
+    rt: &R,
+    alloc: Global,
+    asked: &Asked,
+    map: &Map,
+) -> bool {
     let (work, keys, calls) = (asked.work, asked.keys, asked.share());
-    let _ = of_map(rt, &map, Work::Put, keys, 0, keys);
+    let _ = of_map(rt, map, Work::Put, keys, 0, keys);
     time(
         rt,
         alloc,
         "map",
         asked,
-        &|number| of_map(rt, &map, work, keys, number as u64, calls),
+        &|number| of_map(rt, map, work, keys, number as u64, calls),
     )
-    .is_ok()
 }
 
 /// Runs what each of the threads does, and prints how many of its calls found a pair, and the time
-/// that a call took in its thread.
+/// that a call took in its thread. Answers whether that could be told.
 fn time<F: Fn(usize) -> u64 + Sync, R: Threads + Clock + Print + Eprint + Sync>(
     rt: &R,
     alloc: Global,
     name: &str,
     asked: &Asked,
     run: &F,
-) -> io::Result<()>
+) -> bool
     requires { (thread : ℕ) → F.pre run.now thread }
 {
-    let start = Instant::now(rt)?;
-    let found = total(rt, alloc, asked.threads as usize, run)?;
-    tell(rt, name, asked, found, start.elapsed(rt)?.as_nanos())
+    let Ok(start) = Instant::now(rt) else {
+        return false;
+    };
+    let Ok(found) = total(rt, alloc, asked.threads as usize, run) else {
+        return false;
+    };
+    match start.elapsed(rt) {
+        Ok(taken) => tell(rt, name, asked, found, taken.as_nanos()).is_ok(),
+        Err(_) => false,
+    }
 }
 
 /// Prints how many of the calls found a pair, and the time a call took in its thread.

@@ -14,9 +14,10 @@ pub(crate) fn total<F: Fn(usize) -> u64 + Sync, R: Threads + Sync>(
 ) -> Result<u64, AllocError>
     requires { (thread : ℕ) → F.pre count.now thread }
 {
+    let counts = thread::map_indices(rt, alloc, threads, count)?;
     let mut sum = 0u64;
-    for counted in thread::map_indices(rt, alloc, threads, count)? {
-        sum = sum.wrapping_add(counted);
+    for counted in &counts {
+        sum = sum.wrapping_add(*counted);
     }
     Ok(sum)
 }

@@ -1,7 +1,7 @@
 //! The works, and which key a call is of.
 
 /// What the calls do.
-#[derive(Clone, Copy, PartialEq, Eq)]
+#[derive(Clone, Copy)]
 pub(crate) enum Work {
     /// Each looks a key up.
     Get,
@@ -35,10 +35,10 @@ impl Work {
 
     /// The key of the call.
     pub(crate) fn key_of(self, call: u64, thread: u64, keys: u64) -> u64 {
-        if self == Work::Hot {
-            return 0;
-        }
         let place = call.wrapping_mul(7919).wrapping_add(thread);
-        place.checked_rem(keys).unwrap_or(0)
+        match self {
+            Work::Hot => 0,
+            _ => place.checked_rem(keys).unwrap_or(0),
+        }
     }
 }

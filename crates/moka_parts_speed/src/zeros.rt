@@ -1,10 +1,10 @@
 //! A hasher that puts all keys into one part.
 
-use std::hash::{BuildHasher, Hasher};
+use std::hash::Hasher;
 
 /// Gives every key the same hash.
-#[derive(Clone, Copy)]
-pub struct Zero {}
+#[derive(Clone, Copy, Default)]
+pub(crate) struct Zero {}
 
 impl Hasher for Zero {
     ghost write = { λ s bytes. s };
@@ -16,17 +16,4 @@ impl Hasher for Zero {
     }
 
     fn write(&mut self, _bytes: &[u8]) {}
-}
-
-#[derive(Clone, Copy)]
-pub struct BuildZero {}
-
-impl BuildHasher for BuildZero {
-    type Hasher = Zero;
-
-    ghost build_hasher = { λ s. record {} };
-
-    fn build_hasher(&self) -> Zero {
-        Zero {}
-    }
 }

@@ -31,20 +31,16 @@ pub(crate) fn are_booked_once<R: Threads + Wait + Sync>(
     rt: &R,
     alloc: Global,
 ) -> Result<bool, AllocError> {
-    all_book(rt, alloc, &new_parts(alloc)?)
+    Ok(all_book(rt, alloc, &new_parts(alloc)?))
 }
 
 /// All guests book all places at once: each place is booked by one of them. Then each gives back
 /// what it has booked.
-fn all_book<R: Threads + Wait + Sync>(
-    rt: &R,
-    alloc: Global,
-    hall: &Hall,
-) -> Result<bool, AllocError> {
-    let booked = all_do(rt, alloc, hall, Deed::Book)?;
+fn all_book<R: Threads + Wait + Sync>(rt: &R, alloc: Global, hall: &Hall) -> bool {
+    let booked = all_do(rt, alloc, hall, Deed::Book);
     let taken = hall.len(rt);
-    let left = all_do(rt, alloc, hall, Deed::Cancel)?;
-    Ok(booked == PLACES && taken == PLACES && left == PLACES && hall.len(rt) == 0)
+    let left = all_do(rt, alloc, hall, Deed::Cancel);
+    booked == PLACES && taken == PLACES && left == PLACES && hall.len(rt) == 0
 }
 
 /// What a guest does with each place.
@@ -55,18 +51,14 @@ enum Deed {
 }
 
 /// How many places all guests get, or give back.
-fn all_do<R: Threads + Wait + Sync>(
-    rt: &R,
-    alloc: Global,
-    hall: &Hall,
-    deed: Deed,
-) -> Result<u64, AllocError> {
+fn all_do<R: Threads + Wait + Sync>(rt: &R, alloc: Global, hall: &Hall, deed: Deed) -> u64 {
     total(
         rt,
         alloc,
         GUESTS,
         &|guest| done(rt, hall, guest as u64, deed),
     )
+    .unwrap_or(0)
 }
 
 /// How many places the guest gets, or gives back.

@@ -30,22 +30,15 @@ pub(crate) fn are_all_counted<R: Threads + Wait + Sync>(
     rt: &R,
     alloc: Global,
 ) -> Result<bool, AllocError> {
-    all_come(rt, alloc, &new_parts(alloc)?)
+    Ok(all_come(rt, alloc, &new_parts(alloc)?))
 }
 
-/// Visitors come by all doors at once, and each door counts what its visits took out. With what is
-/// left at the end these are all visits.
-fn all_come<R: Threads + Wait + Sync>(
-    rt: &R,
-    alloc: Global,
-    pages: &Pages,
-) -> Result<bool, AllocError> {
-    let counted = total(rt, alloc, DOORS, &|_| come(rt, pages))?;
-    let left = match pages.take_out_if(rt, &0, |_, _| true) {
-        Some((_, visits)) => visits,
-        None => 0,
-    };
-    Ok(counted.wrapping_add(left) == VISITS.wrapping_mul(DOORS as u64))
+/// Visitors come by all doors at once, and each door counts what its visits took out. With what one
+/// more visit takes out these are all visits.
+fn all_come<R: Threads + Wait + Sync>(rt: &R, alloc: Global, pages: &Pages) -> bool {
+    let counted = total(rt, alloc, DOORS, &|_| come(rt, pages)).unwrap_or(0);
+    let left = note(rt, pages, 0).unwrap_or(0);
+    counted.wrapping_add(left) == VISITS.wrapping_mul(DOORS as u64)
 }
 
 /// How many visits one door has counted.
