@@ -1,0 +1,35 @@
+-- An exchange that may be made is a step that can be made, whatever the book is.
+use Rattle.std.proofs.Common.{◌≡◌, ◌==◌, ℕ, Bool, List, None, Option, Some, refl, subst}
+use Rattle.std.specs.List.{slice_get}
+use prog.Atomic.{either}
+use Rattle.logbook.specs.Pages.{Moves, Nib, may_write, nib, step}
+use Rattle.moka_words.specs.Arrays.{bucket_at}
+use Rattle.moka_history.specs.declared.note.Note.{Note}
+use Rattle.moka_history.specs.declared.note.Note.TheVariants.{Changed}
+use Rattle.moka_history.specs.Cells.{number_of}
+use Rattle.moka_history.specs.States.{Ticket}
+use Rattle.moka_history.specs.Logs.{state_of}
+use Rattle.moka_history.specs.Rules.{Holds}
+use Rattle.moka_history.specs.Keeping.{IsDivided}
+use Rattle.moka_history.specs.Moving.{moved, shown}
+use Rattle.moka_history.proofs.Plays.{changing_moves}
+use Rattle.moka_shared.specs.declared.asked.Exchange.{Exchange}
+use Rattle.moka_shared.specs.Asks.{exchange_note}
+use Rattle.moka_shared.specs.Steps.{ChangesOrStays, MayExchange}
+use Rattle.moka_shared.proofs.Loading.{opened_some}
+use Rattle.moka_shared.proofs.Staying.{moves_more}
+
+module _ {K V S : Type 0} (eq : K → K → Bool) (hash : S → K → ℕ) (place : S → ℕ → K → ℕ) (divided : IsDivided eq hash place) where
+  pub exchange_moves : (bucket from to : ℕ) (asked : Exchange) (log : List (Note K V S)) → MayExchange eq hash place bucket from to asked log →
+      (pen : Nib) (home : Bool) → pen ≡ nib may_write pen.key 0 → slice_get (state_of log).cells pen.key ≡ Some (Ticket asked.ticket home) →
+      (ask : Note K V S) → ask ≡ exchange_note asked → (state : Option ℕ) → state ≡ None →
+      Moves (Holds eq hash place) shown moved bucket (log, (pen, state)) (λ n. either (n == from) to n)
+      (ChangesOrStays eq hash place (step bucket from to ask) (log, (pen, state)))
+  exchange_moves bucket from to asked log may pen home pen_is at ask ask_is state none =
+      let there = subst (λ (i : ℕ). slice_get ((state_of log).arrays asked.array) i ≡ Some bucket) may.index_is may.there in
+      rw (pen_is, ask_is, none, may.from_is, may.to_is, may.index_is)
+      (moves_more eq hash place log (opened_some may.segments may.size may.hasher log may.opened) (nib may_write pen.key 0) refl None bucket
+      (number_of may.word) (number_of asked.to) (Changed asked.ticket asked.array (bucket_at may.length_is may.call.hash may.passed) asked.to)
+      (λ n. either (n == number_of may.word) (number_of asked.to) n)
+      (changing_moves eq hash place divided may.segments may.size may.hasher log may.opened may.key may.call asked.array may.length_is may.passed may.word
+      asked.to may.comes may.small bucket pen.key asked.ticket home there at))

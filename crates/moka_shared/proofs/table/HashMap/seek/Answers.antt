@@ -1,0 +1,173 @@
+use Rattle.std.proofs.Common.{◌≡◌, ◌∙◌, ◌<◌, ◌^◌, ap, arith, refl, subst}
+use Rattle.moka_words.specs.Arrays.{bucket_at}
+use Rattle.moka_history.specs.Logs.{state_of}
+use Rattle.moka_history.proofs.Lists.{prefix_self, prefix_through}
+use Rattle.moka_shared.specs.Hashing.{hash_in, place_in, segment_of}
+use Rattle.moka_shared.specs.Meeting.{Hides, Meets, Stops}
+use Rattle.moka_shared.specs.Probing.{HasProbed}
+use Rattle.moka_shared.proofs.Divided.{divided}
+use Rattle.moka_shared.proofs.Loading.{goes_through, reads_at}
+use Rattle.moka_shared.proofs.Placed.{segment_below}
+use Rattle.moka_shared.proofs.Probed.{begins_probed, goes_past, stops_open}
+use Rattle.moka_shared.proofs.table.HashMap.seek.Goals as goal
+
+pub loop-passed-init : goal.loop-passed-init
+loop-passed-init g c =
+    let eq = g.K.PartialEq.eq in
+    let hash = hash_in g.S.BuildHasher g.S.Hasher.Hasher g.K.Hash.hash_input in
+    let place = place_in g.S.BuildHasher g.S.Hasher.Hasher g.K.Hash.hash_input in
+    let equals = divided g.S.BuildHasher g.S.Hasher.Hasher g.K.Hash.hash_input eq g.met.K.Eq.laws g.met.K.Hash.respects_eq in
+    let t = c.args.self.now in
+    record {
+      callable = c.requires.callable;
+      book = refl;
+      goes_on = record { begins = prefix_self c.args.front.now.log; is_log = c.requires.log };
+      hidden = refl;
+      knows = λ key computes h_is. (
+        computes,
+        begins_probed eq hash place equals t key (segment_below t.segments (hash t.hasher key) c.requires.log.some (subst (λ n. n < 2 ^ 64) h_is (let f = c.ranges.hash.fits in omega (arith, f))))
+            c.args.hash h_is c.args.front.now.log,
+      );
+    }
+
+pub loop-passed-preserved : goal.loop-passed-preserved
+loop-passed-preserved g c =
+    let eq = g.K.PartialEq.eq in
+    let hash = hash_in g.S.BuildHasher g.S.Hasher.Hasher g.K.Hash.hash_input in
+    let place = place_in g.S.BuildHasher g.S.Hasher.Hasher g.K.Hash.hash_input in
+    let equals = divided g.S.BuildHasher g.S.Hasher.Hasher g.K.Hash.hash_input eq g.met.K.Eq.laws g.met.K.Hash.respects_eq in
+    let t = c.args.self.now in
+    let inv = c.loop-passed.invariant in
+    let loads = c.load-word.ensures.loads in
+    let old = c.loop-passed.front.log in
+    let new = c.load-word.new.front.log in
+    let met = c.in-Other.is in
+    record {
+      callable = c.meets-met.ensures.callable;
+      book = c.load-word.ensures.book ∙ inv.book;
+      goes_on = record { begins = prefix_through c.args.front.now.log old new inv.goes_on.begins loads.goes_on.begins; is_log = loads.goes_on.is_log };
+      hidden = subst (λ m. Stops c.load-word.result c.loop-passed.hidden c.meets-met.new.hidden m) met c.meets-met.ensures.stops ∙ inv.hidden;
+      knows = λ key computes h_is.
+          let known = inv.knows key computes h_is in
+          let told = c.meets-met.ensures.meets (eq key) known.0 in (
+            told.0,
+            goes_past eq hash place equals t key (segment_below t.segments (hash t.hasher key) c.requires.log.some (subst (λ n. n < 2 ^ 64) h_is (let f = c.ranges.hash.fits in omega (arith, f))))
+                c.args.hash h_is old new inv.goes_on.is_log c.segment_of-segment.result c.bucket_at-index.result c.load-word.result loads
+                (c.segment_of-segment.ensures.is ∙ (ap (λ s. segment_of s.segments c.args.hash) c.self.view_is ∙ ap (segment_of t.segments) h_is))
+                c.loop-passed.passed (c.bucket_at-index.ensures.bucket ∙ ap (λ s. bucket_at s.size c.args.hash c.loop-passed.passed) c.self.view_is)
+                (subst (λ s. c.loop-passed.passed < s.size) c.self.view_is c.loop-passed-test.true) known.1
+                (subst (λ m. Meets (eq key) (state_of new).pairs c.load-word.result m) met told.1),
+          );
+    }
+
+pub returns-in-Open-clause-ends : goal.returns-in-Open-clause-ends
+returns-in-Open-clause-ends g c = λ key computes h_is.
+    let eq = g.K.PartialEq.eq in
+    let hash = hash_in g.S.BuildHasher g.S.Hasher.Hasher g.K.Hash.hash_input in
+    let place = place_in g.S.BuildHasher g.S.Hasher.Hasher g.K.Hash.hash_input in
+    let equals = divided g.S.BuildHasher g.S.Hasher.Hasher g.K.Hash.hash_input eq g.met.K.Eq.laws g.met.K.Hash.respects_eq in
+    let t = c.args.self.now in
+    let inv = c.loop-passed.invariant in
+    let old = c.loop-passed.front.log in
+    let new = c.load-word.new.front.log in
+    let known = inv.knows key computes h_is in
+    let told = c.meets-met.ensures.meets (eq key) known.0 in
+    stops_open eq hash place equals t key (segment_below t.segments (hash t.hasher key) c.requires.log.some (subst (λ n. n < 2 ^ 64) h_is (let f = c.ranges.hash.fits in omega (arith, f))))
+    c.args.hash h_is old new inv.goes_on.is_log c.segment_of-segment.result c.bucket_at-index.result c.load-word.result c.load-word.ensures.loads
+    (c.segment_of-segment.ensures.is ∙ (ap (λ s. segment_of s.segments c.args.hash) c.self.view_is ∙ ap (segment_of t.segments) h_is))
+    c.loop-passed.passed (c.bucket_at-index.ensures.bucket ∙ ap (λ s. bucket_at s.size c.args.hash c.loop-passed.passed) c.self.view_is)
+    (subst (λ s. c.loop-passed.passed < s.size) c.self.view_is c.loop-passed-test.true) known.1
+    (subst (λ m. Meets (eq key) (state_of new).pairs c.load-word.result m) c.in-Open.is told.1)
+
+pub returns-in-Open-clause-goes_on : goal.returns-in-Open-clause-goes_on
+returns-in-Open-clause-goes_on g c =
+    let eq = g.K.PartialEq.eq in
+    let hash = hash_in g.S.BuildHasher g.S.Hasher.Hasher g.K.Hash.hash_input in
+    let place = place_in g.S.BuildHasher g.S.Hasher.Hasher g.K.Hash.hash_input in
+    let t = c.args.self.now in
+    let inv = c.loop-passed.invariant in
+    let old = c.loop-passed.front.log in
+    let new = c.load-word.new.front.log in
+    goes_through eq hash place t c.args.front.now.log old new inv.goes_on c.load-word.ensures.loads.goes_on
+
+pub returns-in-Open-clause-stops : goal.returns-in-Open-clause-stops
+returns-in-Open-clause-stops g c =
+    let eq = g.K.PartialEq.eq in
+    let hash = hash_in g.S.BuildHasher g.S.Hasher.Hasher g.K.Hash.hash_input in
+    let place = place_in g.S.BuildHasher g.S.Hasher.Hasher g.K.Hash.hash_input in
+    let t = c.args.self.now in
+    let inv = c.loop-passed.invariant in
+    let old = c.loop-passed.front.log in
+    let new = c.load-word.new.front.log in
+    let reads = reads_at eq hash place t old new c.segment_of-segment.result c.bucket_at-index.result c.load-word.result c.load-word.ensures.loads c.args.hash c.loop-passed.passed
+    (c.segment_of-segment.ensures.is ∙ ap (λ s. segment_of s.segments c.args.hash) c.self.view_is)
+    (c.bucket_at-index.ensures.bucket ∙ ap (λ s. bucket_at s.size c.args.hash c.loop-passed.passed) c.self.view_is)
+    (subst (λ s. c.loop-passed.passed < s.size) c.self.view_is c.loop-passed-test.true) in
+    let stops = subst (λ m. Stops c.load-word.result c.loop-passed.hidden c.meets-met.new.hidden m) c.in-Open.is c.meets-met.ensures.stops in
+    (reads, stops ∙ inv.hidden)
+
+pub returns-in-Hidden-clause-goes_on : goal.returns-in-Hidden-clause-goes_on
+returns-in-Hidden-clause-goes_on g c =
+    let eq = g.K.PartialEq.eq in
+    let hash = hash_in g.S.BuildHasher g.S.Hasher.Hasher g.K.Hash.hash_input in
+    let place = place_in g.S.BuildHasher g.S.Hasher.Hasher g.K.Hash.hash_input in
+    let t = c.args.self.now in
+    let inv = c.loop-passed.invariant in
+    let old = c.loop-passed.front.log in
+    let new = c.load-word.new.front.log in
+    goes_through eq hash place t c.args.front.now.log old new inv.goes_on c.load-word.ensures.loads.goes_on
+
+pub returns-in-Hidden-clause-stops : goal.returns-in-Hidden-clause-stops
+returns-in-Hidden-clause-stops g c =
+    let eq = g.K.PartialEq.eq in
+    let hash = hash_in g.S.BuildHasher g.S.Hasher.Hasher g.K.Hash.hash_input in
+    let place = place_in g.S.BuildHasher g.S.Hasher.Hasher g.K.Hash.hash_input in
+    let t = c.args.self.now in
+    let inv = c.loop-passed.invariant in
+    let old = c.loop-passed.front.log in
+    let new = c.load-word.new.front.log in
+    let reads = reads_at eq hash place t old new c.segment_of-segment.result c.bucket_at-index.result c.load-word.result c.load-word.ensures.loads c.args.hash c.loop-passed.passed
+    (c.segment_of-segment.ensures.is ∙ ap (λ s. segment_of s.segments c.args.hash) c.self.view_is)
+    (c.bucket_at-index.ensures.bucket ∙ ap (λ s. bucket_at s.size c.args.hash c.loop-passed.passed) c.self.view_is)
+    (subst (λ s. c.loop-passed.passed < s.size) c.self.view_is c.loop-passed-test.true) in
+    let stops = subst (λ m. Stops c.load-word.result c.loop-passed.hidden c.meets-met.new.hidden m) c.in-Hidden.is c.meets-met.ensures.stops in (
+      record { passed = c.loop-passed.passed; word = c.load-word.result; reads = reads; names = stops.0 },
+      subst (λ h. Hides c.in-Hidden.number h c.meets-met.new.hidden) inv.hidden stops.1,
+    )
+
+pub returns-in-Sealed-clause-goes_on : goal.returns-in-Sealed-clause-goes_on
+returns-in-Sealed-clause-goes_on g c =
+    let eq = g.K.PartialEq.eq in
+    let hash = hash_in g.S.BuildHasher g.S.Hasher.Hasher g.K.Hash.hash_input in
+    let place = place_in g.S.BuildHasher g.S.Hasher.Hasher g.K.Hash.hash_input in
+    let t = c.args.self.now in
+    let inv = c.loop-passed.invariant in
+    let old = c.loop-passed.front.log in
+    let new = c.load-word.new.front.log in
+    goes_through eq hash place t c.args.front.now.log old new inv.goes_on c.load-word.ensures.loads.goes_on
+
+pub returns-in-Sealed-clause-stops : goal.returns-in-Sealed-clause-stops
+returns-in-Sealed-clause-stops g c =
+    let eq = g.K.PartialEq.eq in
+    let hash = hash_in g.S.BuildHasher g.S.Hasher.Hasher g.K.Hash.hash_input in
+    let place = place_in g.S.BuildHasher g.S.Hasher.Hasher g.K.Hash.hash_input in
+    let t = c.args.self.now in
+    let inv = c.loop-passed.invariant in
+    let old = c.loop-passed.front.log in
+    let new = c.load-word.new.front.log in
+    let reads = reads_at eq hash place t old new c.segment_of-segment.result c.bucket_at-index.result c.load-word.result c.load-word.ensures.loads c.args.hash c.loop-passed.passed
+    (c.segment_of-segment.ensures.is ∙ ap (λ s. segment_of s.segments c.args.hash) c.self.view_is)
+    (c.bucket_at-index.ensures.bucket ∙ ap (λ s. bucket_at s.size c.args.hash c.loop-passed.passed) c.self.view_is)
+    (subst (λ s. c.loop-passed.passed < s.size) c.self.view_is c.loop-passed-test.true) in
+    let stops = subst (λ m. Stops c.load-word.result c.loop-passed.hidden c.meets-met.new.hidden m) c.in-Sealed.is c.meets-met.ensures.stops in
+    (reads, stops.0, stops.1 ∙ inv.hidden)
+
+pub returns-clause-ends : goal.returns-clause-ends
+returns-clause-ends g c = λ key computes h_is.
+    let place = place_in g.S.BuildHasher g.S.Hasher.Hasher g.K.Hash.hash_input in
+    let t = c.args.self.now in
+    let most = c.loop-passed.auto.passed-end in
+    let least = c.loop-passed-test.false in
+    let all : c.loop-passed.passed ≡ c.self.inside.size = omega (arith, most, least) in
+    subst (λ n. HasProbed g.K.PartialEq.eq place t key c.args.hash c.loop-passed.front.log n) (all ∙ ap (λ s. s.size) c.self.view_is)
+    (c.loop-passed.invariant.knows key computes h_is).1

@@ -1,0 +1,19 @@
+-- The probe has passed other keys alone, in a log that goes on.
+use Rattle.std.proofs.Common.{◌≡◌}
+use Rattle.std.specs.Fn.{ComputesKey}
+use Rattle.moka_shared.specs.Hashing.{hash_in, place_in}
+use Rattle.moka_shared.specs.Probing.{GoesOn, HasProbed}
+use Rattle.moka_shared.proofs.table.HashMap.seek.Given as goal
+
+abbrev pub invariant-loop-passed : goal.invariant-loop-passed
+invariant-loop-passed g l = record {
+  callable : goal.F-IsAlwaysCallable g l.eq;
+  book : l.front.book ≡ l.fn.front.book;
+  goes_on : GoesOn g.K.PartialEq.eq (hash_in g.S.BuildHasher g.S.Hasher.Hasher g.K.Hash.hash_input) (place_in g.S.BuildHasher g.S.Hasher.Hasher g.K.Hash.hash_input)
+      l.self l.fn.front.log l.front.log;
+  hidden : l.hidden ≡ l.fn.hidden;
+  knows : (key : _) → ComputesKey g.F.FnMut (g.K.PartialEq.eq key) l.fn.eq →
+      l.hash ≡ hash_in g.S.BuildHasher g.S.Hasher.Hasher g.K.Hash.hash_input l.self.hasher key →
+      ComputesKey g.F.FnMut (g.K.PartialEq.eq key) l.eq
+      × HasProbed g.K.PartialEq.eq (place_in g.S.BuildHasher g.S.Hasher.Hasher g.K.Hash.hash_input) l.self key l.hash l.front.log l.passed;
+}

@@ -1,0 +1,88 @@
+use Rattle.std.proofs.Common.{◌≡◌, ◌∙◌, ap, subst, sym}
+use Rattle.moka_history.specs.Logs.{entries_of}
+use Rattle.moka_history.specs.Entries.{map_after}
+use Rattle.moka_history.proofs.Lists.{prefix_through}
+use Rattle.moka_shared.specs.Hashing.{hash_in, place_in}
+use Rattle.moka_shared.specs.Looks.{Asks, Finds, HasCause, IsSo}
+use Rattle.moka_shared.specs.Probing.{Ends, StopsAt}
+use Rattle.moka_shared.specs.Tables.{IsTable}
+use Rattle.moka_shared.proofs.Answered.{legal_of}
+use Rattle.moka_shared.proofs.Found.{if_ok_to}
+use Rattle.moka_shared.proofs.Inserted.{made_lasts}
+use Rattle.moka_shared.proofs.Loading.{opened_by}
+use Rattle.moka_shared.proofs.table.HashMap.try_get.Goals as goal
+
+pub learn-requires : goal.learn-requires
+learn-requires g c = ap (λ t. t.book) c.self.view_is ∙ sym c.requires.seat
+
+pub seek-ended-requires : goal.seek-ended-requires
+seek-ended-requires g c =
+    let t = c.args.self.now in
+    let well = subst (λ s. IsTable s c.self.inside.start.log c.self.inside.door c.self.inside.buckets.items c.self.inside.shelf) c.self.view_is c.self.invariant in
+    let learned = c.learn.ensures in
+    record {
+      callable = c.requires.callable;
+      book = learned.0 ∙ c.requires.seat;
+      log = record {
+        kept = learned.4.1.1;
+        opened = opened_by t.segments t.size t.hasher c.self.inside.start.log c.learn.new.self.log well.begun learned.3;
+        some = well.some;
+      };
+    }
+
+pub answer-requires : goal.answer-requires
+answer-requires g c = record {
+  book = c.seek-ended.ensures.book ∙ (c.learn.ensures.0 ∙ c.requires.seat);
+  log = c.seek-ended.ensures.goes_on.is_log;
+  stops = (c.args.seat.now.hidden, c.seek-ended.ensures.stops);
+}
+
+pub returns-clause-seat : goal.returns-clause-seat
+returns-clause-seat g c = c.seek-ended.ensures.book ∙ (c.learn.ensures.0 ∙ c.requires.seat)
+
+pub returns-clause-history : goal.returns-clause-history
+returns-clause-history g c =
+    prefix_through c.args.seat.now.front.log c.learn.new.self.log c.seek-ended.new.front.log c.learn.ensures.2 c.seek-ended.ensures.goes_on.begins
+
+pub returns-clause-legal : goal.returns-clause-legal
+returns-clause-legal g c =
+    legal_of g.K.PartialEq.eq (hash_in g.S.BuildHasher g.S.Hasher.Hasher g.K.Hash.hash_input)
+    (place_in g.S.BuildHasher g.S.Hasher.Hasher g.K.Hash.hash_input) c.seek-ended.new.front.log c.seek-ended.ensures.goes_on.is_log.kept
+
+pub returns-clause-made : goal.returns-clause-made
+returns-clause-made g c = λ made.
+    made_lasts g.K.PartialEq.eq (hash_in g.S.BuildHasher g.S.Hasher.Hasher g.K.Hash.hash_input)
+    (place_in g.S.BuildHasher g.S.Hasher.Hasher g.K.Hash.hash_input) c.seek-ended.new.front.log c.seek-ended.ensures.goes_on.is_log.kept
+    c.args.seat.now.front.log
+    (prefix_through c.args.seat.now.front.log c.learn.new.self.log c.seek-ended.new.front.log c.learn.ensures.2 c.seek-ended.ensures.goes_on.begins)
+    c.args.seat.now.mine.numbers made
+
+pub returns-clause-found : goal.returns-clause-found
+returns-clause-found g c =
+    let eq = g.K.PartialEq.eq in
+    let hash = hash_in g.S.BuildHasher g.S.Hasher.Hasher g.K.Hash.hash_input in
+    let place = place_in g.S.BuildHasher g.S.Hasher.Hasher g.K.Hash.hash_input in
+    let t = c.args.self.now in
+    let log = c.seek-ended.new.front.log in
+    if_ok_to (λ got. (q : _) → c.args.hash ≡ hash t.hasher q → Ends eq place t q c.args.hash log c.seek-ended.result → Finds (map_after eq (entries_of log) q) got)
+    (λ got. (q : _) → Asks g.F.FnMut eq (hash t.hasher) c.args.hash c.args.eq q → Finds (map_after eq (entries_of log) q) got) c.answer.result
+    (λ got finds q asks. finds q asks.hashed (c.seek-ended.ensures.ends q asks.computes asks.hashed)) c.answer.ensures.found
+
+pub returns-clause-fact : goal.returns-clause-fact
+returns-clause-fact g c =
+    let eq = g.K.PartialEq.eq in
+    let hash = hash_in g.S.BuildHasher g.S.Hasher.Hasher g.K.Hash.hash_input in
+    let place = place_in g.S.BuildHasher g.S.Hasher.Hasher g.K.Hash.hash_input in
+    let t = c.args.self.now in
+    let log = c.seek-ended.new.front.log in
+    if_ok_to (λ got. (q : _) → c.args.hash ≡ hash t.hasher q → Ends eq place t q c.args.hash log c.seek-ended.result → IsSo (g.P.Fact.holds q) got)
+    (λ got. (q : _) → Asks g.F.FnMut eq (hash t.hasher) c.args.hash c.args.eq q → IsSo (g.P.Fact.holds q) got) c.answer.result
+    (λ got so q asks. so q asks.hashed (c.seek-ended.ensures.ends q asks.computes asks.hashed)) c.answer.ensures.fact
+
+pub returns-clause-again : goal.returns-clause-again
+returns-clause-again g c =
+    let t = c.args.self.now in
+    let log = c.seek-ended.new.front.log in
+    let before = c.args.seat.now.hidden in
+    if_ok_to (λ got. (b : _) → StopsAt t c.args.hash log b c.seek-ended.new.hidden c.seek-ended.result → HasCause t c.args.hash log b c.answer.new.hidden got)
+    (HasCause t c.args.hash log before c.answer.new.hidden) c.answer.result (λ got cause. cause before c.seek-ended.ensures.stops) c.answer.ensures.again

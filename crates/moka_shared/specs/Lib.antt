@@ -1,0 +1,9 @@
+pub mod Hashing
+pub mod Asks
+pub mod Steps
+pub mod Tables
+pub mod Nodes
+pub mod Meeting
+pub mod Probing
+pub mod Looks
+pub mod Inserts

@@ -1,0 +1,63 @@
+//! What calls of one pass answer.
+
+use moka_words::Word;
+
+/// Why a pass has to be made again.
+#[derive(Clone, Copy, PartialEq, Eq, Debug)]
+pub enum Missed {
+    /// A word of the array was sealed.
+    Sealed {
+        word: Word,
+        array: u64,
+        index: usize,
+    },
+    /// The shelf hid the node of this number.
+    NodeHidden(u64),
+    /// The array of this number was hidden.
+    ArrayHidden(u64),
+    /// Another caller had exchanged the word for this one.
+    Lost(Word),
+    /// Another caller had drawn this ticket.
+    Ticket(u64),
+    /// All words of the array, of which there are so many, are of other keys.
+    NoFree {
+        length: usize,
+    },
+    /// All tickets are drawn.
+    Spent,
+}
+
+/// What a look for a key answers.
+#[derive(Drop, Debug)]
+pub enum TryGet<V> {
+    /// The value under the key, if there is one.
+    Found(Option<V>),
+    /// The pass has to be made again.
+    Again(Missed),
+}
+
+/// What an insert where the key is absent answers. A pair that isn't put comes back.
+#[derive(Drop, Debug)]
+pub enum TryInsert<K, V> {
+    /// The pair is put.
+    Inserted,
+    /// This value stands under the key already.
+    Present { found: V, key: K, value: V },
+    /// The pass has to be made again.
+    Again { missed: Missed, key: K, value: V },
+    /// Memory is wanting.
+    Memory { key: K, value: V },
+}
+
+/// What became of a pair that was to be put.
+#[derive(Drop, Debug)]
+pub(crate) enum Put<V> {
+    /// It is put.
+    Done,
+    /// This value stands under the key already.
+    There(V),
+    /// The pass has to be made again.
+    Missed(Missed),
+    /// Memory is wanting.
+    Memory,
+}

@@ -1,0 +1,98 @@
+//! The book of a table's history.
+
+use crate::asked::{Drawn, Exchange};
+use logbook::{Gain, Plain, Play, Rule};
+use moka_history::Note;
+use std::hash::{BuildHasher, Hash};
+
+/// The rule of the book: that of `moka_history`, with the hashes of the table's hash builder.
+pub struct Law;
+
+impl<K: Eq + Hash, V, S: BuildHasher> Rule<Note<K, V, S>, u64> for Law {
+    ghost use Rattle.std.specs.Prelude.{[]};
+    ghost use base.Fml.{ftrue};
+    ghost use Rattle.moka_history.specs.Rules.{Holds};
+    ghost use Rattle.moka_shared.specs.Hashing.{hash_in, place_in};
+
+    ghost holds = { λ cells log. Holds K.eq (hash_in S.BuildHasher S.Hasher.Hasher K.hash_input)
+        (place_in S.BuildHasher S.Hasher.Hasher K.hash_input) cells log };
+
+    ghost first = { [] };
+
+    ghost hinted = { λ n log. Unit {0} };
+
+    ghost shows = { λ log. [] };
+
+    ghost keeps = { λ names log. ftrue };
+
+    ghost moves = { λ ask before after answer. Unit {0} };
+}
+
+/// Callers trade nothing.
+pub struct Nothing;
+
+impl<K, V, S> Gain<Note<K, V, S>, u64> for Nothing {
+    ghost use base.Fml.{ftrue};
+
+    ghost after = { λ names about answer. ftrue };
+}
+
+/// A step that looks.
+pub struct Look;
+
+impl<K: Eq + Hash, V, S: BuildHasher> Play<Note<K, V, S>, u64> for Look {
+    ghost use Rattle.moka_history.specs.Moving.{Looks};
+    ghost use Rattle.moka_shared.specs.Hashing.{hash_in, place_in};
+
+    ghost then = { Looks K.eq (hash_in S.BuildHasher S.Hasher.Hasher K.hash_input)
+        (place_in S.BuildHasher S.Hasher.Hasher K.hash_input) };
+}
+
+impl<K, V, S> Plain<(), Note<K, V, S>, u64> for Look {
+    ghost use Rattle.std.specs.Prelude.{None};
+    ghost use Rattle.moka_history.specs.declared.note.Note.TheVariants.{Announced};
+
+    ghost ask = { λ x. Announced 0 None };
+
+    ghost state = { λ x. None };
+}
+
+/// A step that draws a ticket.
+pub struct Draw;
+
+impl<K: Eq + Hash, V, S: BuildHasher> Play<Note<K, V, S>, u64> for Draw {
+    ghost use Rattle.moka_history.specs.Moving.{Announces};
+    ghost use Rattle.moka_shared.specs.Hashing.{hash_in, place_in};
+
+    ghost then = { Announces K.eq (hash_in S.BuildHasher S.Hasher.Hasher K.hash_input)
+        (place_in S.BuildHasher S.Hasher.Hasher K.hash_input) };
+}
+
+impl<'a, K, V, S> Plain<Drawn<'a, K, V>, Note<K, V, S>, u64> for Draw {
+    ghost use Rattle.std.specs.Prelude.{None};
+    ghost use Rattle.moka_shared.specs.Asks.{drawn_note};
+
+    ghost ask = { λ drawn. drawn_note drawn };
+
+    ghost state = { λ drawn. None };
+}
+
+/// A step that exchanges a bucket.
+pub struct Change;
+
+impl<K: Eq + Hash, V, S: BuildHasher> Play<Note<K, V, S>, u64> for Change {
+    ghost use Rattle.moka_shared.specs.Hashing.{hash_in, place_in};
+    ghost use Rattle.moka_shared.specs.Steps.{ChangesOrStays};
+
+    ghost then = { ChangesOrStays K.eq (hash_in S.BuildHasher S.Hasher.Hasher K.hash_input)
+        (place_in S.BuildHasher S.Hasher.Hasher K.hash_input) };
+}
+
+impl<K, V, S> Plain<Exchange, Note<K, V, S>, u64> for Change {
+    ghost use Rattle.std.specs.Prelude.{None};
+    ghost use Rattle.moka_shared.specs.Asks.{exchange_note};
+
+    ghost ask = { λ exchange. exchange_note exchange };
+
+    ghost state = { λ exchange. None };
+}

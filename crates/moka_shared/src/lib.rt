@@ -1,0 +1,26 @@
+//! A table that threads share: each bucket is a word of one log.
+#![tactic(auto)]
+
+mod answers;
+mod asked;
+mod book;
+mod fact;
+mod front;
+mod insert;
+mod look;
+mod node;
+mod open;
+mod probe;
+mod put;
+mod seat;
+mod seek;
+mod segments;
+mod table;
+mod words;
+
+pub use answers::{Missed, TryGet, TryInsert};
+pub use book::Law;
+pub use fact::{Anything, Fact};
+pub use node::Node;
+pub use seat::Seat;
+pub use table::HashMap;

@@ -1,0 +1,180 @@
+//! Looks for a key.
+ghost use Rattle.std.specs.Prelude.{◌≡◌, ◌<◌, ◌+◌, Bool, Some, IfOk, length};
+ghost use mathlib.Core.List.{IsPrefix};
+ghost use Rattle.moka_words.specs.Arrays.{bucket_at};
+ghost use Rattle.moka_words.specs.Words.{stored_in};
+ghost use Rattle.moka_pairs.specs.Pairs.{pair_at};
+ghost use Rattle.moka_history.specs.Entries.{IsLegal, map_after};
+ghost use Rattle.moka_history.specs.Logs.{entries_of, state_of};
+ghost use Rattle.moka_shared.specs.Hashing.{hash_in, place_in, segment_of};
+ghost use Rattle.moka_shared.specs.Inserts.{AreMade};
+ghost use Rattle.moka_shared.specs.Looks.{Asks, Finds, HasCause, IsSo};
+ghost use Rattle.moka_shared.specs.Probing.{Ends, IsLogOf, ReadsAt, ReadsNode, StopsAt};
+ghost use Rattle.moka_shared.specs.declared.answers.Missed.TheVariants.{Sealed};
+ghost use Rattle.moka_shared.specs.declared.answers.TryGet.TheVariants.{Found};
+
+use crate::Fact;
+use crate::answers::{Missed, TryGet};
+use crate::book::Law;
+use crate::probe::Ended;
+use crate::seat::Seat;
+use crate::segments::{bucket_at, segment_of};
+use crate::table::HashMap;
+use crate::words::stored_in;
+use logbook::Seen;
+use moka_history::Note;
+use moka_shelf::{Hidden, Shelf};
+use moka_values::Exact;
+use moka_words::Word;
+use std::alloc::AllocError;
+use std::hash::{BuildHasher, Hash};
+
+// A copy of the value, as a look answers it.
+fn found_in<V: Exact>(value: &V) -> Result<TryGet<V>, AllocError>
+    ensures { IfOk result (λ got. got ≡ Found (Some value.now)) }
+{
+    Ok(TryGet::Found(Some(value.clone()?)))
+}
+
+impl<K: Eq + Hash, V, S: BuildHasher, P: Fact<K, V>> HashMap<K, V, S, P> {
+    /// A copy of the value under the key that the test is true of, whose hash this is, by one pass.
+    /// An error comes where the copy finds no memory.
+    pub fn try_get<F: FnMut(&K) -> bool>(
+        &self,
+        seat: &mut Seat<K, V, S>,
+        hash: u64,
+        mut eq: F,
+    ) -> Result<TryGet<V>, AllocError>
+    where
+        V: Exact,
+        requires seat { seat.old.front.book ≡ self.now.book }
+        requires callable { F.IsAlwaysCallable eq }
+        ensures seat { seat.new.front.book ≡ self.now.book }
+        ensures mine { seat.new.mine ≡ seat.old.mine }
+        ensures history { IsPrefix seat.old.front.log seat.new.front.log }
+        ensures legal { IsLegal K.eq (entries_of seat.new.front.log) }
+        ensures made { AreMade seat.old.mine.numbers (entries_of seat.old.front.log)
+            → AreMade seat.new.mine.numbers (entries_of seat.new.front.log) }
+        ensures found { IfOk result (λ got. (q : K)
+            → Asks F.FnMut K.eq (hash_in S.BuildHasher S.Hasher.Hasher K.hash_input
+            self.now.hasher) hash eq q
+            → Finds (map_after K.eq (entries_of seat.new.front.log) q) got) }
+        ensures fact { IfOk result (λ got. (q : K)
+            → Asks F.FnMut K.eq (hash_in S.BuildHasher S.Hasher.Hasher K.hash_input
+            self.now.hasher) hash eq q → IsSo (P.holds q) got) }
+        ensures again { IfOk result (HasCause self.now hash seat.new.front.log
+            seat.old.hidden seat.new.hidden) }
+    {
+        seat.front.learn(&self.start);
+        let ended = self.seek(&mut seat.front, &mut seat.hidden, hash, &mut eq);
+        self.answer(&seat.front, &mut seat.hidden, hash, ended)
+    }
+
+    // What a look answers whose probe ended there.
+    fn answer(
+        &self,
+        front: &Seen<Note<K, V, S>, u64, Law>,
+        hidden: &mut Hidden,
+        hash: u64,
+        ended: Ended,
+    ) -> Result<TryGet<V>, AllocError>
+    where
+        V: Exact,
+        requires book { front.now.book ≡ self.now.book }
+        requires log { IsLogOf K.eq (hash_in S.BuildHasher S.Hasher.Hasher K.hash_input)
+            (place_in S.BuildHasher S.Hasher.Hasher K.hash_input) self.now front.now.log }
+        requires stops { (before : Hidden) × StopsAt self.now hash front.now.log before hidden.old
+            ended }
+        ensures found { IfOk result (λ got. (q : K)
+            → hash ≡ hash_in S.BuildHasher S.Hasher.Hasher K.hash_input self.now.hasher q
+            → Ends K.eq (place_in S.BuildHasher S.Hasher.Hasher K.hash_input) self.now q hash
+            front.now.log ended → Finds (map_after K.eq (entries_of front.now.log) q) got) }
+        ensures fact { IfOk result (λ got. (q : K)
+            → hash ≡ hash_in S.BuildHasher S.Hasher.Hasher K.hash_input self.now.hasher q
+            → Ends K.eq (place_in S.BuildHasher S.Hasher.Hasher K.hash_input) self.now q hash
+            front.now.log ended → IsSo (P.holds q) got) }
+        ensures again { IfOk result (λ got. (before : Hidden)
+            → StopsAt self.now hash front.now.log before hidden.old ended
+            → HasCause self.now hash front.now.log before hidden.new got) }
+    {
+        match ended {
+            Ended::At { passed, word } => self.copied(front, hidden, hash, passed, word),
+            Ended::Full => Ok(TryGet::Found(None)),
+            Ended::Hidden(number) => Ok(TryGet::Again(Missed::NodeHidden(number))),
+            Ended::Sealed { passed, word } => Ok(TryGet::Again(self.sealed(hash, passed, word))),
+        }
+    }
+
+    // A copy of the value that is stored in the word, which was read past so many others.
+    fn copied(
+        &self,
+        front: &Seen<Note<K, V, S>, u64, Law>,
+        hidden: &mut Hidden,
+        hash: u64,
+        passed: usize,
+        word: Word,
+    ) -> Result<TryGet<V>, AllocError>
+    where
+        V: Exact,
+        requires book { front.now.book ≡ self.now.book }
+        requires log { IsLogOf K.eq (hash_in S.BuildHasher S.Hasher.Hasher K.hash_input)
+            (place_in S.BuildHasher S.Hasher.Hasher K.hash_input) self.now front.now.log }
+        requires read { ReadsAt self.now hash passed word front.now.log }
+        ensures found { IfOk result (Finds
+            (pair_at (state_of front.now.log).pairs (stored_in word))) }
+        ensures fact { IfOk result (λ got. (p : K × V)
+            → pair_at (state_of front.now.log).pairs (stored_in word) ≡ Some p
+            → IsSo (P.holds p.0) got) }
+        ensures again { IfOk result
+            (HasCause self.now hash front.now.log hidden.old hidden.new) }
+    {
+        let _passed = passed;
+        match stored_in(word) {
+            None => Ok(TryGet::Found(None)),
+            Some(number) => self.copied_from(front, hidden, hash, number),
+        }
+    }
+
+    // A copy of the value of this node, which a word that was read names.
+    fn copied_from(
+        &self,
+        front: &Seen<Note<K, V, S>, u64, Law>,
+        hidden: &mut Hidden,
+        hash: u64,
+        number: u64,
+    ) -> Result<TryGet<V>, AllocError>
+    where
+        V: Exact,
+        requires book { front.now.book ≡ self.now.book }
+        requires some { 0 < length front.now.log }
+        requires read { ReadsNode self.now hash number front.now.log }
+        requires named { (p : K × V) × ((state_of front.now.log).pairs number ≡ Some p) }
+        ensures found { IfOk result (Finds ((state_of front.now.log).pairs number)) }
+        ensures fact { IfOk result (λ got. (p : K × V)
+            → (state_of front.now.log).pairs number ≡ Some p → IsSo (P.holds p.0) got) }
+        ensures again { IfOk result
+            (HasCause self.now hash front.now.log hidden.old hidden.new) }
+    {
+        let _hash = hash;
+        match self.shelf.shown(hidden, number) {
+            None => Ok(TryGet::Again(Missed::NodeHidden(number))),
+            Some(node) => {
+                node.is_named(front);
+                found_in(node.value())
+            }
+        }
+    }
+
+    // A sealed word that was read under the hash, past so many others.
+    pub(crate) fn sealed(&self, hash: u64, passed: usize, word: Word) -> Missed
+        requires { passed < self.now.size }
+        ensures { result ≡ Sealed word (segment_of self.now.segments hash + 1)
+            (bucket_at self.now.size hash passed) }
+    {
+        Missed::Sealed {
+            word,
+            array: segment_of(self.segments, hash) as u64 + 1,
+            index: bucket_at(self.size, hash, passed),
+        }
+    }
+}

@@ -1,0 +1,229 @@
+//! Puts a pair on a ticket, where a probe has ended.
+ghost use Rattle.std.specs.Prelude.{◌≡◌, ◌<◌, ◌≤◌, ◌+◌, ◌^◌, ◌∷◌, Some, None, IfOk, IfErr, OnOk, List};
+ghost use mathlib.Core.List.{IsPrefix};
+ghost use Rattle.moka_words.specs.Words.{stored_in};
+ghost use Rattle.moka_history.specs.Logs.{state_of};
+ghost use Rattle.moka_history.specs.declared.note.Note.{Note};
+ghost use Rattle.moka_shared.specs.Hashing.{hash_in, place_in};
+ghost use Rattle.moka_shared.specs.Inserts.{Adds, CanPut, IsDrawnFor, IsMet, IsUndrawn, PutsOn, entry_put};
+ghost use Rattle.moka_shared.specs.Probing.{GoesOn, IsLogOf};
+ghost use Rattle.moka_shared.specs.Steps.{Pens};
+
+use crate::Fact;
+use crate::answers::{Missed, Put};
+use crate::asked::{Drawn, Exchange};
+use crate::book::Law;
+use crate::front::{draw, exchange, look};
+use crate::node::Node;
+use crate::seat::Seat;
+use crate::segments::{bucket_at, position, segment_of};
+use crate::table::HashMap;
+use crate::words::{number_of, word_of};
+use boxcar::tag::{Names, Tag};
+use logbook::{Pen, Seen};
+use moka_history::Note;
+use moka_shelf::Shelf;
+use moka_words::Word;
+use std::hash::{BuildHasher, Hash};
+
+/// The last ticket that can be drawn.
+const LAST: u64 = 1 << 60;
+
+/// Where a probe under a hash ended, past so many others: at a word that stores nothing.
+#[derive(Clone, Copy, Debug)]
+pub(crate) struct Gap {
+    pub(crate) hash: u64,
+    pub(crate) passed: usize,
+    pub(crate) word: Word,
+}
+
+/// A ticket that was drawn, and the pen of its cell.
+#[derive(Drop)]
+pub(crate) struct Ticketed {
+    ticket: u64,
+    pen: Pen,
+}
+
+// A ticket, before those that the caller has.
+#[derive(Drop)]
+struct Added {
+    ticket: u64,
+    mine: Tag,
+}
+
+struct First;
+
+impl Names<Added> for First {
+    ghost use Rattle.std.specs.Prelude.{◌∷◌};
+
+    ghost numbers = { λ x. x.ticket ∷ x.mine.numbers };
+}
+
+struct Same;
+
+impl Names<Tag> for Same {
+    ghost numbers = { λ tag. tag.numbers };
+}
+
+// The caller's tickets, and one more.
+fn with_ticket(ticket: u64, mine: &Tag) -> Tag
+    ensures { result.numbers ≡ ticket ∷ mine.now.numbers }
+{
+    let mine = Tag::of::<Tag, Same>(mine);
+    Tag::of::<Added, First>(&Added { ticket, mine })
+}
+
+impl<K: Eq + Hash, V, S: BuildHasher, P: Fact<K, V>> HashMap<K, V, S, P> {
+    // How many tickets were drawn. The front becomes the log at the load.
+    fn drawn(&self, front: &mut Seen<Note<K, V, S>, u64, Law>) -> u64
+        requires book { front.old.book ≡ self.now.book }
+        requires log { IsLogOf K.eq (hash_in S.BuildHasher S.Hasher.Hasher K.hash_input)
+            (place_in S.BuildHasher S.Hasher.Hasher K.hash_input) self.now front.old.log }
+        ensures book { front.new.book ≡ front.old.book }
+        ensures goes_on { GoesOn K.eq (hash_in S.BuildHasher S.Hasher.Hasher K.hash_input)
+            (place_in S.BuildHasher S.Hasher.Hasher K.hash_input) self.now
+            front.old.log front.new.log }
+        ensures last { self.now.segments + result ≡ (state_of front.new.log).last }
+        ensures small { self.now.segments + result ≤ 2 ^ 60 }
+    {
+        look(front, &self.door)
+    }
+
+    /// Draws the next ticket, under which the history then names the pair.
+    pub(crate) fn draw_for(
+        &self,
+        front: &mut Seen<Note<K, V, S>, u64, Law>,
+        key: &K,
+        value: &V,
+    ) -> Result<Ticketed, Missed>
+        requires book { front.old.book ≡ self.now.book }
+        requires log { IsLogOf K.eq (hash_in S.BuildHasher S.Hasher.Hasher K.hash_input)
+            (place_in S.BuildHasher S.Hasher.Hasher K.hash_input) self.now front.old.log }
+        ensures book { front.new.book ≡ front.old.book }
+        ensures goes_on { GoesOn K.eq (hash_in S.BuildHasher S.Hasher.Hasher K.hash_input)
+            (place_in S.BuildHasher S.Hasher.Hasher K.hash_input) self.now
+            front.old.log front.new.log }
+        ensures drawn { IfOk result (λ d. (d.pen.book ≡ front.new.book)
+            × IsDrawnFor key.now value.now d.ticket d.pen.nib front.old.log front.new.log) }
+        ensures missed { IfErr result (IsUndrawn front.old.log front.new.log) }
+    {
+        let first = self.segments as u64;
+        let drawn = self.drawn(front);
+        if first + drawn >= LAST {
+            return Err(Missed::Spent);
+        }
+        let ticket = first + (drawn + 1);
+        let asked = Drawn {
+            ticket,
+            pair: Some((key, value)),
+        };
+        match draw(front, &self.door, drawn, &asked) {
+            Ok(pen) => Ok(Ticketed { ticket, pen }),
+            Err(found) => Err(Missed::Ticket(first + found)),
+        }
+    }
+
+    /// Sets the node of the ticket, and exchanges the word for its own.
+    pub(crate) fn put_on(
+        &self,
+        seat: &mut Seat<K, V, S>,
+        key: K,
+        value: V,
+        gap: &Gap,
+        drawn: Ticketed,
+    ) -> Put<V>
+    where
+        K: Drop,
+        V: Drop,
+        S: Drop,
+        requires book { seat.old.front.book ≡ self.now.book }
+        requires pen { (drawn.pen.book ≡ seat.old.front.book)
+            × Pens drawn.ticket drawn.pen.nib seat.old.front.log }
+        requires log { IsLogOf K.eq (hash_in S.BuildHasher S.Hasher.Hasher K.hash_input)
+            (place_in S.BuildHasher S.Hasher.Hasher K.hash_input) self.now seat.old.front.log }
+        requires fact { P.holds key value }
+        requires can { (found : List (Note K V S)) × CanPut K.eq
+            (hash_in S.BuildHasher S.Hasher.Hasher K.hash_input)
+            (place_in S.BuildHasher S.Hasher.Hasher K.hash_input) self.now gap.now.hash
+            gap.now.passed gap.now.word drawn.ticket key value found seat.old.front.log }
+        ensures book { seat.new.front.book ≡ seat.old.front.book }
+        ensures hidden { seat.new.hidden ≡ seat.old.hidden }
+        ensures goes_on { GoesOn K.eq (hash_in S.BuildHasher S.Hasher.Hasher K.hash_input)
+            (place_in S.BuildHasher S.Hasher.Hasher K.hash_input) self.now
+            seat.old.front.log seat.new.front.log }
+        ensures puts { (found : List (Note K V S)) → CanPut K.eq
+            (hash_in S.BuildHasher S.Hasher.Hasher K.hash_input)
+            (place_in S.BuildHasher S.Hasher.Hasher K.hash_input) self.now gap.now.hash
+            gap.now.passed gap.now.word drawn.ticket key value found seat.old.front.log
+            → PutsOn self.now gap.now.hash gap.now.passed drawn.ticket key value found seat.old
+            seat.new result }
+    {
+        let Ticketed { ticket, mut pen } = drawn;
+        let node = Node::new(key, value, ticket, &seat.front);
+        if self.shelf.set(ticket, node).is_err() {
+            return Put::Memory;
+        }
+        match self.exchange_on(&mut seat.front, ticket, &mut pen, gap) {
+            Ok(()) => {
+                seat.mine = with_ticket(ticket, &seat.mine);
+                Put::Done
+            }
+            Err(word) => Put::Missed(Missed::Lost(word)),
+        }
+    }
+
+    // Exchanges the word for the live one of the ticket, on the ticket. Answers the word that it met
+    // instead.
+    fn exchange_on(
+        &self,
+        front: &mut Seen<Note<K, V, S>, u64, Law>,
+        ticket: u64,
+        pen: &mut Pen,
+        gap: &Gap,
+    ) -> Result<(), Word>
+        requires book { front.old.book ≡ self.now.book }
+        requires pen { (pen.old.book ≡ front.old.book)
+            × Pens ticket pen.old.nib front.old.log }
+        requires log { IsLogOf K.eq (hash_in S.BuildHasher S.Hasher.Hasher K.hash_input)
+            (place_in S.BuildHasher S.Hasher.Hasher K.hash_input) self.now front.old.log }
+        requires can { (key : K) × (value : V) × (found : List (Note K V S)) × CanPut K.eq
+            (hash_in S.BuildHasher S.Hasher.Hasher K.hash_input)
+            (place_in S.BuildHasher S.Hasher.Hasher K.hash_input) self.now gap.now.hash
+            gap.now.passed gap.now.word ticket key value found front.old.log }
+        ensures book { front.new.book ≡ front.old.book }
+        ensures goes_on { GoesOn K.eq (hash_in S.BuildHasher S.Hasher.Hasher K.hash_input)
+            (place_in S.BuildHasher S.Hasher.Hasher K.hash_input) self.now
+            front.old.log front.new.log }
+        ensures done { OnOk result ((key : K) (value : V)
+            → (state_of front.old.log).pairs ticket ≡ Some (key, value)
+            → Adds (entry_put ticket key value) front.old.log front.new.log) }
+        ensures met { IfErr result (λ word. (key : K) (value : V) (found : List (Note K V S))
+            → CanPut K.eq (hash_in S.BuildHasher S.Hasher.Hasher K.hash_input)
+            (place_in S.BuildHasher S.Hasher.Hasher K.hash_input) self.now gap.now.hash
+            gap.now.passed gap.now.word ticket key value found front.old.log
+            → IsMet self.now gap.now.hash gap.now.passed ticket found word front.new.log) }
+    {
+        let segment = segment_of(self.segments, gap.hash);
+        let index = bucket_at(self.size, gap.hash, gap.passed);
+        let at = position(self.segments, self.size, segment, index);
+        let bucket = &self.buckets[at];
+        let to = Word::Live(ticket);
+        let asked = Exchange {
+            ticket,
+            array: segment as u64 + 1,
+            index,
+            to,
+        };
+        match exchange(
+            front,
+            bucket,
+            number_of(gap.word),
+            number_of(to),
+            pen,
+            &asked,
+        ) {
+            Ok(()) => Ok(()),
+            Err(found) => Err(word_of(found)),
+        }
+    }
+}

@@ -1,0 +1,17 @@
+//! What one caller has seen of a table.
+
+use crate::book::Law;
+use boxcar::tag::Tag;
+use logbook::Seen;
+use moka_history::Note;
+use moka_shelf::Hidden;
+use std::hash::{BuildHasher, Hash};
+
+/// What one caller has seen of the history of a table, what the table's shelf has hidden from it, and
+/// the tickets under which it has made changes.
+#[derive(Drop)]
+pub struct Seat<K: Eq + Hash, V, S: BuildHasher> {
+    pub(crate) front: Seen<Note<K, V, S>, u64, Law>,
+    pub(crate) hidden: Hidden,
+    pub(crate) mine: Tag,
+}

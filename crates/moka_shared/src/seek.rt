@@ -1,0 +1,121 @@
+//! Probes.
+ghost use Rattle.std.specs.Prelude.{◌≡◌, ◌<◌, Bool, length};
+ghost use Rattle.std.specs.Fn.{ComputesKey};
+ghost use Rattle.moka_history.specs.Logs.{state_of};
+ghost use Rattle.moka_shared.specs.Hashing.{hash_in, place_in};
+ghost use Rattle.moka_shared.specs.Meeting.{Meets, Shows, Stops, Tests};
+ghost use Rattle.moka_shared.specs.Probing.{Ends, GoesOn, IsLogOf, StopsAt};
+
+use crate::Fact;
+use crate::book::Law;
+use crate::probe::{Ended, Met};
+use crate::segments::{bucket_at, segment_of};
+use crate::table::HashMap;
+use logbook::Seen;
+use moka_history::Note;
+use moka_shelf::{Hidden, Shelf};
+use moka_words::Word;
+use std::hash::{BuildHasher, Hash};
+
+fn is_true<K, F: FnMut(&K) -> bool>(key: &K, eq: &mut F) -> bool
+    requires { F.IsAlwaysCallable eq.old }
+    ensures callable { F.IsAlwaysCallable eq.new }
+    ensures own { (h : K → Bool) → ComputesKey F.FnMut h eq.old
+        → ComputesKey F.FnMut h eq.new × (result ≡ h key.now) }
+{
+    eq(key)
+}
+
+impl<K: Eq + Hash, V, S: BuildHasher, P: Fact<K, V>> HashMap<K, V, S, P> {
+    /// Probes the segment of the hash for the key that the test is true of: until it meets a bucket
+    /// that is free, or the key's. The front becomes the log at the last load.
+    pub(crate) fn seek<F: FnMut(&K) -> bool>(
+        &self,
+        front: &mut Seen<Note<K, V, S>, u64, Law>,
+        hidden: &mut Hidden,
+        hash: u64,
+        eq: &mut F,
+    ) -> Ended
+        requires callable { F.IsAlwaysCallable eq.old }
+        requires book { front.old.book ≡ self.now.book }
+        requires log { IsLogOf K.eq (hash_in S.BuildHasher S.Hasher.Hasher K.hash_input)
+            (place_in S.BuildHasher S.Hasher.Hasher K.hash_input) self.now front.old.log }
+        ensures book { front.new.book ≡ front.old.book }
+        ensures goes_on { GoesOn K.eq (hash_in S.BuildHasher S.Hasher.Hasher K.hash_input)
+            (place_in S.BuildHasher S.Hasher.Hasher K.hash_input) self.now
+            front.old.log front.new.log }
+        ensures ends { (key : K) → ComputesKey F.FnMut (K.eq key) eq.old
+            → hash ≡ hash_in S.BuildHasher S.Hasher.Hasher K.hash_input self.now.hasher key
+            → Ends K.eq (place_in S.BuildHasher S.Hasher.Hasher K.hash_input) self.now key hash
+            front.new.log result }
+        ensures stops { StopsAt self.now hash front.new.log hidden.old hidden.new result }
+    {
+        let segment = segment_of(self.segments, hash);
+        for passed in 0..self.size {
+            let index = bucket_at(self.size, hash, passed);
+            let word = self.load(front, segment, index);
+            let met = self.meets(front, hidden, word, eq);
+            match met {
+                Met::Other => {}
+                Met::Open => return Ended::At { passed, word },
+                Met::Hidden(number) => return Ended::Hidden(number),
+                Met::Sealed => return Ended::Sealed { passed, word },
+            }
+        }
+        Ended::Full
+    }
+
+    // What a probe for the key that the test is true of meets in this word.
+    fn meets<F: FnMut(&K) -> bool>(
+        &self,
+        front: &Seen<Note<K, V, S>, u64, Law>,
+        hidden: &mut Hidden,
+        word: Word,
+        eq: &mut F,
+    ) -> Met
+        requires callable { F.IsAlwaysCallable eq.old }
+        requires book { front.now.book ≡ self.now.book }
+        requires some { 0 < length front.now.log }
+        ensures callable { F.IsAlwaysCallable eq.new }
+        ensures meets { (h : K → Bool) → ComputesKey F.FnMut h eq.old
+            → ComputesKey F.FnMut h eq.new
+            × Meets h (state_of front.now.log).pairs word result }
+        ensures stops { Stops word hidden.old hidden.new result }
+    {
+        match word {
+            Word::Empty => Met::Open,
+            Word::Live(number) => self.tests(front, hidden, number, eq),
+            Word::Tomb(number) => self.tests(front, hidden, number, eq),
+            _ => Met::Sealed,
+        }
+    }
+
+    // What the test says of the key of this node.
+    fn tests<F: FnMut(&K) -> bool>(
+        &self,
+        front: &Seen<Note<K, V, S>, u64, Law>,
+        hidden: &mut Hidden,
+        number: u64,
+        eq: &mut F,
+    ) -> Met
+        requires callable { F.IsAlwaysCallable eq.old }
+        requires book { front.now.book ≡ self.now.book }
+        requires some { 0 < length front.now.log }
+        ensures callable { F.IsAlwaysCallable eq.new }
+        ensures tests { (h : K → Bool) → ComputesKey F.FnMut h eq.old
+            → ComputesKey F.FnMut h eq.new
+            × Tests h (state_of front.now.log).pairs number result }
+        ensures shows { Shows number hidden.old hidden.new result }
+    {
+        match self.shelf.shown(hidden, number) {
+            None => Met::Hidden(number),
+            Some(node) => {
+                node.is_named(front);
+                if is_true(node.key(), eq) {
+                    return Met::Open;
+                }
+                Met::Other
+            }
+        }
+    }
+}

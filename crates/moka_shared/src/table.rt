@@ -1,0 +1,91 @@
+//! The table.
+ghost use Rattle.std.specs.Prelude.{◌≡◌, [], ◌<◌, ◌+◌, length};
+ghost use Rattle.moka_shared.specs.Hashing.{hash_in, place_in};
+ghost use Rattle.moka_shared.specs.Probing.{IsLogOf, Loads};
+
+use crate::book::Law;
+use crate::front::look;
+use crate::node::Node;
+use crate::segments::position;
+use crate::words::word_of;
+use crate::{Anything, Fact};
+use logbook::{Seen, Word as Bucket};
+use moka_history::Note;
+use moka_shelf::OnceShelf;
+use moka_words::Word;
+use std::hash::{BuildHasher, Hash};
+use std::marker::Model;
+
+/// A table that threads share, without a lock: each bucket is a word of one book, and what a call
+/// answers is what the map of the book's history gives. What is stored owes the fact P. Contracts
+/// see its hash builder, how many segments it has, how many words each of them has, and the book.
+#[derive(Drop)]
+pub struct HashMap<K: Eq + Hash, V, S: BuildHasher, P: Fact<K, V> = Anything> {
+    pub(crate) build_hasher: S,
+    pub(crate) segments: usize,
+    pub(crate) size: usize,
+    pub(crate) start: Seen<Note<K, V, S>, u64, Law>,
+    pub(crate) door: Bucket<Note<K, V, S>, u64, Law>,
+    pub(crate) buckets: Vec<Bucket<Note<K, V, S>, u64, Law>>,
+    pub(crate) shelf: OnceShelf<Node<K, V, S, P>>,
+}
+
+impl<K: Eq + Hash, V, S: BuildHasher, P: Fact<K, V>> Model for HashMap<K, V, S, P> {
+    ghost use Rattle.moka_shared.specs.Tables.{IsTable, Table};
+
+    ghost Value = { Table S };
+
+    ghost view = { λ t. record {
+      hasher = t.build_hasher;
+      segments = t.segments;
+      size = t.size;
+      book = t.start.book;
+    } };
+
+    ghost invariant = { λ t. IsTable record {
+      hasher = t.build_hasher;
+      segments = t.segments;
+      size = t.size;
+      book = t.start.book;
+    } t.start.log t.door t.buckets.items t.shelf };
+}
+
+impl<K: Eq + Hash, V, S: BuildHasher, P: Fact<K, V>> HashMap<K, V, S, P> {
+    /// The hash of the key.
+    pub fn hash(&self, key: &K) -> u64
+        ensures { result
+            ≡ hash_in S.BuildHasher S.Hasher.Hasher K.hash_input self.now.hasher key.now }
+    {
+        self.build_hasher.hash_one(key)
+    }
+
+    /// How many segments the table has.
+    pub fn actual_num_segments(&self) -> usize
+        ensures { result ≡ self.now.segments }
+    {
+        self.segments
+    }
+
+    /// Reads the word of a bucket. The front becomes the log at the load.
+    pub(crate) fn load(
+        &self,
+        front: &mut Seen<Note<K, V, S>, u64, Law>,
+        segment: usize,
+        index: usize,
+    ) -> Word
+        requires book { front.old.book ≡ self.now.book }
+        requires log { IsLogOf K.eq (hash_in S.BuildHasher S.Hasher.Hasher K.hash_input)
+            (place_in S.BuildHasher S.Hasher.Hasher K.hash_input) self.now front.old.log }
+        requires segment { segment < self.now.segments }
+        requires index { index < self.now.size }
+        ensures book { front.new.book ≡ front.old.book }
+        ensures loads { Loads K.eq (hash_in S.BuildHasher S.Hasher.Hasher K.hash_input)
+            (place_in S.BuildHasher S.Hasher.Hasher K.hash_input) self.now segment index result
+            front.old.log front.new.log }
+    {
+        let at = position(self.segments, self.size, segment, index);
+        let bucket = &self.buckets[at];
+        let number = look(front, bucket);
+        word_of(number)
+    }
+}

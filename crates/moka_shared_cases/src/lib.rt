@@ -1,0 +1,15 @@
+//! Worked cases of a table that threads share: what no clause of it says.
+#![tactic(auto)]
+
+#[cfg(test)]
+mod calls;
+#[cfg(test)]
+mod hashers;
+#[cfg(test)]
+mod memory;
+#[cfg(test)]
+mod seats;
+#[cfg(test)]
+mod sizes;
+#[cfg(test)]
+mod together;

@@ -1,0 +1,82 @@
+//! Threads that put pairs at the same time. A pass that lost a bucket or a ticket to another thread is
+//! made again.
+
+use crate::calls::Caller;
+use crate::seats::Table;
+use moka_shared::{HashMap, TryInsert};
+use std::hash::{BuildHasherDefault, FoldHasher};
+use std::sync::Wait;
+use std::test::*;
+use std::thread;
+use std::thread::Threads;
+
+/// How many keys each thread puts.
+const KEYS: u64 = 512;
+
+// Puts the pair, however often the pass has to be made again. Tells whether this call put it.
+fn puts<R: Wait>(
+    rt: &R,
+    caller: &mut Caller<'_, BuildHasherDefault<FoldHasher>>,
+    key: u64,
+) -> bool {
+    for _ in rt.forever() {
+        match caller.put(key, key) {
+            TryInsert::Inserted => return true,
+            TryInsert::Present { .. } => return false,
+            TryInsert::Again { .. } => {}
+            TryInsert::Memory { .. } => {}
+        }
+    }
+    false
+}
+
+// Puts so many keys from this one on, and tells how many of them this thread put.
+fn puts_from<R: Wait>(rt: &R, table: &Table, from: u64) -> u64 {
+    let mut caller = Caller::new(table);
+    let mut count = 0u64;
+    for number in 0..KEYS {
+        if puts(rt, &mut caller, from.wrapping_add(number)) {
+            count = count.wrapping_add(1);
+        }
+    }
+    count
+}
+
+// Four threads put their keys, each from its own first one on. Tells how many pairs they put.
+fn put_by_four<R: Threads + Wait + Sync>(rt: &R, table: &Table, firsts: [u64; 4]) -> u64 {
+    let [a, b, c, d] = firsts;
+    let (left, right) = thread::join(
+        rt,
+        || {
+            let (x, y) = thread::join(rt, || puts_from(rt, table, a), || puts_from(rt, table, b));
+            x.wrapping_add(y)
+        },
+        || {
+            let (x, y) = thread::join(rt, || puts_from(rt, table, c), || puts_from(rt, table, d));
+            x.wrapping_add(y)
+        },
+    );
+    left.wrapping_add(right)
+}
+
+#[test]
+fn what_four_threads_put_all_find(rt: HostRuntime) -> Result<(), Fail> {
+    let table: Table = HashMap::with_capacity(rt.alloc(), 4096, BuildHasherDefault::new())?;
+    assert_eq!(rt; put_by_four(&rt, &table, [0, 512, 1024, 1536]), 2048);
+    let mut caller = Caller::new(&table);
+    for key in 0..2048u64 {
+        assert_eq!(rt; caller.value_of(key), Some(key));
+    }
+    Ok(())
+}
+
+#[test]
+fn a_key_of_four_threads_is_put_once(rt: HostRuntime) -> Result<(), Fail> {
+    let table: Table = HashMap::with_capacity(rt.alloc(), 1024, BuildHasherDefault::new())?;
+    assert_eq!(rt; put_by_four(&rt, &table, [0, 0, 0, 0]), 512);
+    let mut caller = Caller::new(&table);
+    for key in 0..512u64 {
+        assert_eq!(rt; caller.value_of(key), Some(key));
+    }
+    Ok(())
+}
