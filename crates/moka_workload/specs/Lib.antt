@@ -1,0 +1,4 @@
+pub mod Made
+pub mod Turns
+pub mod Words
+pub mod Workload
