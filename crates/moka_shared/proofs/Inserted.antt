@@ -13,7 +13,7 @@ use Rattle.moka_shared.specs.declared.answers.Missed.TheVariants as missed
 use Rattle.moka_shared.specs.declared.answers.Put.{Put}
 use Rattle.moka_shared.specs.declared.answers.Put.TheVariants as put
 use Rattle.moka_shared.specs.declared.seat.Seat.{Seat}
-use Rattle.moka_shared.specs.Inserts.{Adds, AreMade, IsMetBy, IsReason, IsThere, Puts, PutsOn}
+use Rattle.moka_shared.specs.Inserts.{Adds, AreMade, IsMetBy, IsReason, IsThere, Puts, PutsOn, StandsSo}
 use Rattle.moka_shared.specs.Looks.{IsNodeHidden}
 use Rattle.moka_shared.specs.Tables.{Table}
 
@@ -129,3 +129,16 @@ puts_there eq place t h key value old new v mine is put.Done there = absurd ther
 puts_there eq place t h key value old new v mine is (put.There found) there = (mine, ap Some there ∙ is)
 puts_there eq place t h key value old new v mine is (put.Missed m) there = absurd there
 puts_there eq place t h key value old new v mine is put.Memory there = mine
+
+-- what is so of a value that stands there
+pub stands_more : {V : Type 0} (A B : V → Type 0) → ((v : V) → A v → B v) → (r : Put V) → StandsSo A r → StandsSo B r
+stands_more A B more put.Done so = tt
+stands_more A B more (put.There found) so = more found so
+stands_more A B more (put.Missed m) so = tt
+stands_more A B more put.Memory so = tt
+
+pub there_so : {V : Type 0} (holds : V → Type 0) (v : V) → holds v → (r : Put V) → IsThere v r → StandsSo holds r
+there_so holds v so put.Done there = tt
+there_so holds v so (put.There found) there = subst holds (sym there) so
+there_so holds v so (put.Missed m) there = tt
+there_so holds v so put.Memory there = tt

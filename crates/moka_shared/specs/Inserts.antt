@@ -105,6 +105,19 @@ PutsOn t hash passed ticket key value front old new (put.Missed missed) =
     (new.mine ≡ old.mine) × IsMetBy t hash passed ticket front new.front.log missed
 PutsOn t hash passed ticket key value front old new put.Memory = new.mine ≡ old.mine
 
+-- the fact holds of the value that stands there already
+abbrev pub StandsSo : {V : Type 0} → (V → Type 0) → Put V → Type 0
+StandsSo holds put.Done = Unit {0}
+StandsSo holds (put.There found) = holds found
+StandsSo holds (put.Missed missed) = Unit {0}
+StandsSo holds put.Memory = Unit {0}
+
+abbrev pub IsPresentSo : {K V : Type 0} → (V → Type 0) → TryInsert K V → Type 0
+IsPresentSo holds insert.Inserted = Unit {0}
+IsPresentSo holds (insert.Present found key value) = holds found
+IsPresentSo holds (insert.Again missed key value) = Unit {0}
+IsPresentSo holds (insert.Memory key value) = Unit {0}
+
 -- the value is answered, or memory was wanting
 abbrev pub IsThere : {V : Type 0} → V → Put V → Type 0
 IsThere value put.Done = ⊥

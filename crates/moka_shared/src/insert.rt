@@ -7,7 +7,7 @@ ghost use Rattle.moka_history.specs.Entries.{IsLegal};
 ghost use Rattle.moka_history.specs.Logs.{entries_of, state_of};
 ghost use Rattle.moka_history.specs.declared.note.Note.{Note};
 ghost use Rattle.moka_shared.specs.Hashing.{hash_in, place_in, segment_of};
-ghost use Rattle.moka_shared.specs.Inserts.{AreMade, Answers, IsThere, Puts};
+ghost use Rattle.moka_shared.specs.Inserts.{AreMade, Answers, IsPresentSo, IsThere, Puts, StandsSo};
 ghost use Rattle.moka_shared.specs.Probing.{EndsAt, GoesOn, IsLogOf, ReadsAt};
 
 use crate::Fact;
@@ -57,6 +57,7 @@ impl<K: Eq + Hash + Exact + Drop, V: Exact + Drop, S: BuildHasher + Drop, P: Fac
         ensures legal { IsLegal K.eq (entries_of seat.new.front.log) }
         ensures made { AreMade seat.old.mine.numbers (entries_of seat.old.front.log)
             → AreMade seat.new.mine.numbers (entries_of seat.new.front.log) }
+        ensures fact { IsPresentSo (P.holds key) result }
         ensures answers { Answers K.eq (place_in S.BuildHasher S.Hasher.Hasher K.hash_input)
             self.now hash key value seat.old seat.new result }
     {
@@ -91,6 +92,7 @@ impl<K: Eq + Hash + Exact + Drop, V: Exact + Drop, S: BuildHasher + Drop, P: Fac
         ensures goes_on { GoesOn K.eq (hash_in S.BuildHasher S.Hasher.Hasher K.hash_input)
             (place_in S.BuildHasher S.Hasher.Hasher K.hash_input) self.now
             seat.old.front.log seat.new.front.log }
+        ensures fact { StandsSo (P.holds key.now) result }
         ensures puts { Puts K.eq (place_in S.BuildHasher S.Hasher.Hasher K.hash_input) self.now
             hash key.now value.now seat.old seat.new result }
     {
@@ -123,6 +125,7 @@ impl<K: Eq + Hash + Exact + Drop, V: Exact + Drop, S: BuildHasher + Drop, P: Fac
         ensures goes_on { GoesOn K.eq (hash_in S.BuildHasher S.Hasher.Hasher K.hash_input)
             (place_in S.BuildHasher S.Hasher.Hasher K.hash_input) self.now
             seat.old.front.log seat.new.front.log }
+        ensures fact { StandsSo (P.holds key.now) result }
         ensures puts { Puts K.eq (place_in S.BuildHasher S.Hasher.Hasher K.hash_input) self.now
             gap.now.hash key.now value.now seat.old seat.new result }
     {
@@ -144,6 +147,7 @@ impl<K: Eq + Hash + Exact + Drop, V: Exact + Drop, S: BuildHasher + Drop, P: Fac
             self.now key.now gap.now.hash seat.old.front.log gap.now.passed gap.now.word }
         requires stored { stored_in gap.now.word ≡ Some number }
         ensures front { seat.new.front ≡ seat.old.front }
+        ensures fact { StandsSo (P.holds key.now) result }
         ensures puts { (value : V) → Puts K.eq
             (place_in S.BuildHasher S.Hasher.Hasher K.hash_input) self.now
             gap.now.hash key.now value seat.old seat.new result }
@@ -174,6 +178,7 @@ impl<K: Eq + Hash + Exact + Drop, V: Exact + Drop, S: BuildHasher + Drop, P: Fac
         ensures goes_on { GoesOn K.eq (hash_in S.BuildHasher S.Hasher.Hasher K.hash_input)
             (place_in S.BuildHasher S.Hasher.Hasher K.hash_input) self.now
             seat.old.front.log seat.new.front.log }
+        ensures fact { StandsSo (P.holds key.now) result }
         ensures puts { Puts K.eq (place_in S.BuildHasher S.Hasher.Hasher K.hash_input) self.now
             gap.now.hash key.now value.now seat.old seat.new result }
     {

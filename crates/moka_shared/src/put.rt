@@ -5,7 +5,7 @@ ghost use Rattle.moka_words.specs.Words.{stored_in};
 ghost use Rattle.moka_history.specs.Logs.{state_of};
 ghost use Rattle.moka_history.specs.declared.note.Note.{Note};
 ghost use Rattle.moka_shared.specs.Hashing.{hash_in, place_in};
-ghost use Rattle.moka_shared.specs.Inserts.{Adds, CanPut, IsDrawnFor, IsMet, IsUndrawn, PutsOn, entry_put};
+ghost use Rattle.moka_shared.specs.Inserts.{Adds, CanPut, IsDrawnFor, IsMet, IsUndrawn, PutsOn, StandsSo, entry_put};
 ghost use Rattle.moka_shared.specs.Probing.{GoesOn, IsLogOf};
 ghost use Rattle.moka_shared.specs.Steps.{Pens};
 
@@ -151,6 +151,7 @@ impl<K: Eq + Hash, V, S: BuildHasher, P: Fact<K, V>> HashMap<K, V, S, P> {
         ensures goes_on { GoesOn K.eq (hash_in S.BuildHasher S.Hasher.Hasher K.hash_input)
             (place_in S.BuildHasher S.Hasher.Hasher K.hash_input) self.now
             seat.old.front.log seat.new.front.log }
+        ensures absent { StandsSo (λ value. ⊥) result }
         ensures puts { (found : List (Note K V S)) → CanPut K.eq
             (hash_in S.BuildHasher S.Hasher.Hasher K.hash_input)
             (place_in S.BuildHasher S.Hasher.Hasher K.hash_input) self.now gap.now.hash

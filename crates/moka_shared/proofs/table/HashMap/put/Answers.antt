@@ -1,7 +1,7 @@
 use Rattle.std.proofs.Common.{refl, subst, sym}
 use Rattle.moka_shared.specs.Hashing.{hash_in, place_in}
 use Rattle.moka_shared.specs.Inserts.{CanPut, Puts}
-use Rattle.moka_shared.proofs.Inserted.{puts_drawn}
+use Rattle.moka_shared.proofs.Inserted.{puts_drawn, stands_more}
 use Rattle.moka_shared.proofs.table.HashMap.put.Goals as goal
 
 pub put_on-requires-clause-can : goal.put_on-requires-clause-can
@@ -55,3 +55,6 @@ returns-in-Ok-draw_for-clause-puts g c =
     (puts_drawn eq place t gap.hash c.in-Ok.own_key c.in-Ok-clone.own_value old record { front = c.draw_for.new.front; hidden = old.hidden; mine = old.mine }
     c.put_on.new.seat c.draw_for.ensures.goes_on.begins refl gap.passed c.in-Ok-draw_for.drawn.ticket drawn.late c.put_on.result
     (c.put_on.ensures.puts old.front.log own)))
+
+pub returns-in-Ok-draw_for-clause-fact : goal.returns-in-Ok-draw_for-clause-fact
+returns-in-Ok-draw_for-clause-fact g c = stands_more (λ v. ⊥) (g.P.Fact.holds c.args.key.now) (λ v never. absurd never) c.put_on.result c.put_on.ensures.absent
