@@ -19,7 +19,7 @@ pub(crate) enum Call {
 }
 
 impl Call {
-    /// The same call, of a value that is so much greater.
+    /// The call, with the base added to its value.
     fn raised(self, base: u64) -> Call {
         match self {
             Call::Look => Call::Look,
