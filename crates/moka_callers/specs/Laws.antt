@@ -1,0 +1,20 @@
+-- What a caller concludes of a run, as one.
+use Rattle.std.specs.Prelude.{Bool}
+use Rattle.moka_callers.specs.Changing.{StepsChangeByWrites, TableChangesBySteps}
+use Rattle.moka_callers.specs.Living.{LivesByReplies, NumbersGoUp}
+use Rattle.moka_callers.specs.Refusing.{RefusedByCause}
+use Rattle.moka_callers.specs.Running.{RepliesAreSteps, RunSplits, RunsJoin}
+
+-- Every law of this crate: each field is the clause of the function of its name.
+pub record LawsForCallers (K V E : Type 0) (eq : K → K → Bool) : Type 0 where
+  -- what a run is made of
+  pub run_splits : RunSplits K V E eq
+  pub runs_join : RunsJoin K V E eq
+  pub replies_are_steps : RepliesAreSteps K V E eq
+  -- which calls are live, and why an event is refused
+  pub lives_by_replies : LivesByReplies K V E eq
+  pub numbers_go_up : NumbersGoUp K V E eq
+  pub refused_by_cause : RefusedByCause K V E eq
+  -- what changes the table
+  pub steps_change_by_writes : StepsChangeByWrites K V E eq
+  pub table_changes_by_steps : TableChangesBySteps K V E eq

@@ -1,0 +1,5 @@
+pub mod Refusing
+pub mod Running
+pub mod Living
+pub mod Changing
+pub mod Laws

@@ -1,0 +1,17 @@
+//! The laws of this crate, as one.
+
+ghost use Rattle.moka_callers.specs.Laws.{LawsForCallers};
+
+/// All laws at once: each field of the record is the law of the function of its name.
+pub fn laws_for_callers<K: Eq, V, E>()
+    ensures laws { LawsForCallers K V E K.eq }
+{
+    crate::refused_by_cause::<K, V, E>();
+    crate::run_splits::<K, V, E>();
+    crate::runs_join::<K, V, E>();
+    crate::replies_are_steps::<K, V, E>();
+    crate::lives_by_replies::<K, V, E>();
+    crate::numbers_go_up::<K, V, E>();
+    crate::steps_change_by_writes::<K, V, E>();
+    crate::table_changes_by_steps::<K, V, E>();
+}

@@ -1,0 +1,20 @@
+//! What a caller concludes of a run by its events and its replies.
+//!
+//! Each law is the contract of a function that does nothing. To call it is to cite the law.
+#![tactic(auto)]
+
+mod changing;
+mod laws;
+mod living;
+mod refusing;
+mod running;
+
+pub use changing::steps_change_by_writes;
+pub use changing::table_changes_by_steps;
+pub use laws::laws_for_callers;
+pub use living::lives_by_replies;
+pub use living::numbers_go_up;
+pub use refusing::refused_by_cause;
+pub use running::replies_are_steps;
+pub use running::run_splits;
+pub use running::runs_join;
