@@ -4,3 +4,6 @@ pub mod Turning
 pub mod Lives
 pub mod Numbering
 pub mod Changed
+pub mod Owning
+pub mod Values
+pub mod Stored

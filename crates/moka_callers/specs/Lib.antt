@@ -2,4 +2,5 @@ pub mod Refusing
 pub mod Running
 pub mod Living
 pub mod Changing
+pub mod Contents
 pub mod Laws

@@ -14,4 +14,6 @@ pub fn laws_for_callers<K: Eq, V, E>()
     crate::numbers_go_up::<K, V, E>();
     crate::steps_change_by_writes::<K, V, E>();
     crate::table_changes_by_steps::<K, V, E>();
+    crate::records_are_of_calls::<K, V, E>();
+    crate::commits_are_made::<K, V, E>();
 }

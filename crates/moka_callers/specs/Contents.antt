@@ -1,0 +1,82 @@
+-- What stands in the table, by whom it was put there, and what a call that committed has done.
+use Rattle.std.specs.Prelude.{◌≡◌, ◌⊎◌, ℕ, Bool, List, ◌∷◌, Option, Some, None, Contains, MatchOption}
+use Rattle.moka_hist.specs.Finite.{put_key}
+use Rattle.moka_hist.specs.State.{Call, State}
+use Rattle.moka_hist.specs.Plan.{Item, Removal}
+use Rattle.moka_hist.specs.Plan as plan
+use Rattle.moka_hist.specs.Run.{IsReached}
+use Rattle.moka_hist.specs.declared.accesses.Turn.{Turn}
+use Rattle.moka_hist.specs.declared.events.Start.{Start}
+use Rattle.moka_hist.specs.declared.events.Told.{Told}
+use Rattle.moka_hist.specs.declared.records.Stored.{Stored}
+use Rattle.moka_laws.specs.Given.{asked_key, value_in}
+use Rattle.moka_laws.specs.Starting.{HasMade, WasStarted}
+use Rattle.moka_laws.specs.Starts.{brought, key_started}
+
+-- ---- single steps
+
+-- the step writes: the record stands under the key from then on
+pub record PutsIn {K V E : Type 0} (eq : K → K → Bool) (key : K) (stored : Stored V)
+    (s : State K V E) (c : Call K V E) (reply : Turn K V E) (t : State K V E) : Type 0 where
+  pub rest : List (Item K V E)
+  pub writing : c.plan ≡ plan.Write key stored.value stored.modified ∷ rest
+  pub put : t.world.table.stored ≡ put_key eq s.world.table.stored key (Some (key, stored))
+
+-- the step takes out what stood under the key
+pub record TakesOut {K V E : Type 0} (eq : K → K → Bool) (key : K) (pair : K × Stored V)
+    (s : State K V E) (c : Call K V E) (reply : Turn K V E) (t : State K V E) : Type 0 where
+  pub removal : Removal K
+  pub rest : List (Item K V E)
+  pub taking : c.plan ≡ plan.Out removal key ∷ rest
+  pub stood : s.world.table.stored key ≡ Some pair
+  pub out : t.world.table.stored ≡ put_key eq s.world.table.stored key None
+
+-- the step takes an answer with this value, which the call of this number was told as it had asked
+-- for the key
+pub record TakesValue {K V E : Type 0} (n : ℕ) (key : K) (value : V)
+    (s : State K V E) (c : Call K V E) (reply : Turn K V E) (t : State K V E) : Type 0 where
+  pub asked : asked_key c.plan ≡ Some key
+  pub given : Told V E
+  pub told : s.world.desk.told n ≡ Some given
+  pub has : value_in given ≡ Some value
+
+-- ---- calls
+
+-- The call of this number, which was started so, has the value for the key: it was started with
+-- both, or started for the key, and told the value since.
+abbrev pub HasValue : {K V E : Type 0} → (K → K → Bool) → Start K V → ℕ → State K V E → K → V →
+    Type 0
+HasValue eq start n s key value =
+    MatchOption (brought start)
+    ((key_started start ≡ Some key) × HasMade eq s n (TakesValue n key value))
+    (λ pair. pair ≡ (key, value))
+
+-- The step of the call of this number writes a record that is its own: stamped with its number, of a
+-- value that the call has for the key.
+pub record PutsOwn {K V E : Type 0} (eq : K → K → Bool) (n : ℕ) (key : K) (stored : Stored V)
+    (s : State K V E) (c : Call K V E) (reply : Turn K V E) (t : State K V E) : Type 0 where
+  pub puts : PutsIn eq key stored s c reply t
+  pub stamp : stored.stamp ≡ n
+  pub start : Start K V
+  pub was : WasStarted eq start n s
+  pub value : HasValue eq start n s key stored.value
+
+-- a stored record was put in by a step of the call of its stamp, as that call's own
+abbrev pub RecordsAreOfCalls : (K V E : Type 0) → (K → K → Bool) → Type 0
+RecordsAreOfCalls K V E eq =
+    (s : State K V E) (q key : K) (stored : Stored V) → IsReached eq s →
+    s.world.table.stored q ≡ Some (key, stored) →
+    HasMade eq s stored.stamp (PutsOwn eq stored.stamp key stored)
+
+-- what a call of this number that committed has done by one of its steps
+abbrev pub ChangesTable : {K V E : Type 0} → (K → K → Bool) → ℕ → State K V E → Call K V E →
+    Turn K V E → State K V E → Type 0
+ChangesTable {K} {V} eq n s c reply t =
+    ((key : K) × (stored : Stored V) × PutsOwn eq n key stored s c reply t) ⊎
+    ((key : K) × (pair : K × Stored V) × TakesOut eq key pair s c reply t)
+
+-- a call that committed has put in a record of its own, or taken one out
+abbrev pub CommitsAreMade : (K V E : Type 0) → (K → K → Bool) → Type 0
+CommitsAreMade K V E eq =
+    (s : State K V E) (n : ℕ) → IsReached eq s → Contains s.world.table.committed n →
+    HasMade eq s n (ChangesTable eq n)

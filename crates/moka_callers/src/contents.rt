@@ -1,0 +1,15 @@
+//! What stands in the table, and by whom it was put there.
+
+ghost use Rattle.moka_callers.specs.Contents.{CommitsAreMade, RecordsAreOfCalls};
+
+/// A stored record was put in by a step of the call of its stamp: under the key of that call, and
+/// of the value that the call was started with, or was told as it had asked for the key.
+pub fn records_are_of_calls<K: Eq, V, E>()
+    ensures made { RecordsAreOfCalls K V E K.eq }
+{}
+
+/// A call that committed a write has put in a record of its own, or taken out what stood under a
+/// key.
+pub fn commits_are_made<K: Eq, V, E>()
+    ensures made { CommitsAreMade K V E K.eq }
+{}
