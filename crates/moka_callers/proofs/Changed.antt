@@ -1,5 +1,5 @@
 -- What changes the table.
-use Rattle.std.proofs.Common.{◌≡◌, ◌⊎◌, inl, inr, ℕ, ◌+◌, ◌==◌, Bool, true, false, List, [], ◌∷◌, Option, Some, None, MatchBool, MatchOption, nat_lt, refl, sym, ap, ◌∙◌, subst}
+use Rattle.std.proofs.Common.{◌≡◌, ◌⊎◌, inl, inr, ℕ, ◌+◌, ◌==◌, Bool, true, false, List, [], ◌∷◌, Option, Some, None, cond, MatchBool, MatchOption, nat_lt, refl, sym, ap, ◌∙◌, subst}
 use Rattle.moka_hist.specs.State.{Call, State, World}
 use Rattle.moka_hist.specs.Plan.{Item}
 use Rattle.moka_hist.specs.Plan as plan
@@ -7,20 +7,34 @@ use Rattle.moka_hist.specs.Dropping.{dropped}
 use Rattle.moka_hist.specs.Next.{Next}
 use Rattle.moka_hist.specs.Run.{Any, Becomes, Drops, Happens, Refuses, at_moment, last_call, started, with_desk}
 use Rattle.moka_hist.specs.Step.{Step}
+use Rattle.moka_hist.specs.Tables.{taken_by}
+use Rattle.moka_hist.specs.Writing.{stamp_asked}
 use Rattle.moka_hist.specs.Telling.{is_asked, told}
 use Rattle.moka_hist.specs.declared.accesses.Turn.{Turn}
 use Rattle.moka_hist.specs.declared.events.Event.{Event}
 use Rattle.moka_hist.specs.declared.events.Event.TheVariants as event
 use Rattle.moka_hist.specs.declared.records.Mode.{Mode}
 use Rattle.moka_hist.specs.declared.records.Mode.TheVariants as mode
+use Rattle.moka_hist.specs.declared.records.Stored.{Stored}
 use Rattle.moka_hist.specs.declared.replies.Refusal.{Refusal}
 use Rattle.moka_hist.specs.declared.replies.Refusal.TheVariants as refusal
 use Rattle.moka_hist.specs.declared.replies.Reply.{Reply}
 use Rattle.moka_hist.specs.declared.replies.Reply.TheVariants as reply
-use Rattle.moka_laws.proofs.Counting.{some_same}
+use Rattle.moka_laws.proofs.Counting.{none_some, some_same}
 use Rattle.moka_laws.proofs.Outcomes.{Outcomes, outcomes, passes_by}
 use Rattle.moka_laws.proofs.StepCases.{OnStep, step_cases}
 use Rattle.moka_callers.specs.Changing.{ChangesBy, MakesNoStep, StepsChangeByWrites, TableChangesBySteps}
+
+-- what was taken out stood there
+pub taken_stood : {K V : Type 0} (stamp : Option ℕ) (o : Option (K × Stored V)) (p : K × Stored V) →
+    taken_by stamp o ≡ Some p → o ≡ Some p
+taken_stood stamp None p e = absurd (none_some e)
+taken_stood None (Some pair) p e = e
+taken_stood (Some stamp) (Some pair) p e = by (pair.1.stamp == stamp) e
+  where
+    by : (b : Bool) → cond b (Some pair) None ≡ Some p → Some pair ≡ Some p
+    by true e = e
+    by false e = absurd (none_some e)
 
 module _ {K V E : Type 0} (eq : K → K → Bool) (w : World K V E) (n : ℕ) (c : Call K V E) where
   -- what is stored then is what this plan's first item makes of it
@@ -56,9 +70,14 @@ module _ {K V E : Type 0} (eq : K → K → Bool) (w : World K V E) (n : ℕ) (c
     λ more. inl refl,
     λ off none. inl refl,
     λ on none. inl refl,
-    λ k old off some. inr refl,
-    λ k old on some. inr refl,
+    λ k old off some. inr ((k, old), stood k old some, refl),
+    λ k old on some. inr ((k, old), stood k old some, refl),
   )
+    where
+      stood : (k : K) (old : Stored V) →
+          taken_by (stamp_asked removal) (w.table.stored key) ≡ Some (k, old) →
+          w.table.stored key ≡ Some (k, old)
+      stood k old some = taken_stood (stamp_asked removal) (w.table.stored key) (k, old) some
   on_item (plan.Register test) rest = refl
   on_item (plan.List_keys part) rest = (λ more. refl, λ listed keys is gives. refl)
   on_item (plan.Find key) rest = (

@@ -7,3 +7,4 @@ pub mod Changed
 pub mod Owning
 pub mod Values
 pub mod Stored
+pub mod Standing

@@ -23,7 +23,7 @@ use Rattle.moka_laws.proofs.Reached.{fresh_reached, run_reached}
 use Rattle.moka_laws.proofs.StepCases.{OnStep, step_cases}
 use Rattle.moka_callers.specs.Changing.{ChangesBy}
 use Rattle.moka_callers.specs.Contents.{ChangesTable, CommitsAreMade, PutsIn, PutsOwn, RecordsAreOfCalls, TakesOut}
-use Rattle.moka_callers.proofs.Changed.{by_writes}
+use Rattle.moka_callers.proofs.Changed.{by_writes, taken_stood}
 use Rattle.moka_callers.proofs.Values.{writes_own}
 
 module _ {K V E : Type 0} (eq : K → K → Bool) where
@@ -105,7 +105,7 @@ module _ {K V E : Type 0} (eq : K → K → Bool) where
       by (plan.Out removal key ∷ rest) is (inl same) = on_calls s t led same i
       by (plan.Out removal key ∷ rest) is (inr out) = record {
         reached = reaches s t led i.reached;
-        made = λ q p has. left q p (eq key q) (sym (ap (λ f. f q) out) ∙ has);
+        made = λ q p has. left q p (eq key q) (sym (ap (λ f. f q) out.2) ∙ has);
       }
         where
           left : (q : K) (p : K × Stored V) (b : Bool) →
@@ -136,16 +136,6 @@ module _ {K V E : Type 0} (eq : K → K → Bool) where
       now.made q (key, stored) is
 
 -- ---- commits
-
-taken_stood : {K V : Type 0} (stamp : Option ℕ) (o : Option (K × Stored V)) (p : K × Stored V) →
-    taken_by stamp o ≡ Some p → o ≡ Some p
-taken_stood stamp None p e = absurd (none_some e)
-taken_stood None (Some pair) p e = e
-taken_stood (Some stamp) (Some pair) p e = by (pair.1.stamp == stamp) e
-  where
-    by : (b : Bool) → cond b (Some pair) None ≡ Some p → Some pair ≡ Some p
-    by true e = e
-    by false e = absurd (none_some e)
 
 module _ {K V E : Type 0} (eq : K → K → Bool) (w : World K V E) (n : ℕ) where
   -- the number was committed last, and nothing else

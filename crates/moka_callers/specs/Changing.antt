@@ -15,13 +15,15 @@ use Rattle.moka_hist.specs.declared.replies.Reply.{Reply}
 module _ {K V E : Type 0} (eq : K → K → Bool) where
   -- What is stored before and after a step of the call of this number, by the first item of its
   -- plan: a write stores its pair, stamped with the number and its moment; a taking out leaves
-  -- nothing under its key; each of them may do nothing as yet, and nothing else does anything.
+  -- nothing under its key, where something stood; each of them may do nothing as yet, and nothing
+  -- else does anything.
   abbrev pub ChangesBy : ℕ → List (Item K V E) → (old new : K → Option (K × Stored V)) → Type 0
   ChangesBy n (plan.Write key value moment ∷ rest) old new =
       let stored : Stored V = record { value = value; stamp = n; modified = moment } in
       (new ≡ old) ⊎ (new ≡ put_key eq old key (Some (key, stored)))
   ChangesBy n (plan.Out removal key ∷ rest) old new =
-      (new ≡ old) ⊎ (new ≡ put_key eq old key None)
+      (new ≡ old) ⊎
+      ((pair : K × Stored V) × (old key ≡ Some pair) × (new ≡ put_key eq old key None))
   ChangesBy n plan old new = new ≡ old
 
 -- a step changes what is stored by a write or a taking out alone

@@ -1,16 +1,19 @@
 -- What stands in the table, by whom it was put there, and what a call that committed has done.
-use Rattle.std.specs.Prelude.{◌≡◌, ◌⊎◌, ℕ, Bool, List, ◌∷◌, Option, Some, None, Contains, MatchOption}
+use Rattle.std.specs.Prelude.{◌≡◌, ◌⊎◌, ℕ, Bool, true, List, ◌∷◌, Option, Some, None, Contains, MatchOption}
 use Rattle.moka_hist.specs.Finite.{put_key}
 use Rattle.moka_hist.specs.State.{Call, State}
 use Rattle.moka_hist.specs.Plan.{Item, Removal}
 use Rattle.moka_hist.specs.Plan as plan
-use Rattle.moka_hist.specs.Run.{IsReached}
+use Rattle.moka_hist.specs.Run.{Any, IsReached, Run}
+use Rattle.moka_hist.specs.Step.{Step}
 use Rattle.moka_hist.specs.declared.accesses.Turn.{Turn}
+use Rattle.moka_hist.specs.declared.events.Event.{Event}
 use Rattle.moka_hist.specs.declared.events.Start.{Start}
 use Rattle.moka_hist.specs.declared.events.Told.{Told}
 use Rattle.moka_hist.specs.declared.records.Stored.{Stored}
+use Rattle.moka_hist.specs.declared.replies.Reply.{Reply}
 use Rattle.moka_laws.specs.Given.{asked_key, value_in}
-use Rattle.moka_laws.specs.Starting.{HasMade, WasStarted}
+use Rattle.moka_laws.specs.Starting.{HasMade, Leads, WasStarted}
 use Rattle.moka_laws.specs.Starts.{brought, key_started}
 
 -- ---- single steps
@@ -80,3 +83,37 @@ abbrev pub CommitsAreMade : (K V E : Type 0) → (K → K → Bool) → Type 0
 CommitsAreMade K V E eq =
     (s : State K V E) (n : ℕ) → IsReached eq s → Contains s.world.table.committed n →
     HasMade eq s n (ChangesTable eq n)
+
+-- ---- what is left standing
+
+-- A step that a call made on the way from the first state to the second, and what it was.
+pub record MadeSince {K V E : Type 0} (eq : K → K → Bool) (s t : State K V E)
+    (What : State K V E → Call K V E → Turn K V E → State K V E → Type 0) : Type 0 where
+  pub number : ℕ
+  pub before : State K V E
+  pub since : Leads eq s before
+  pub call : Call K V E
+  pub live : before.calls number ≡ Some call
+  pub turn : Turn K V E
+  pub after : State K V E
+  pub step : Step eq before number turn after
+  pub what : What before call turn after
+  pub led : Leads eq after t
+
+-- What stands under a key in the second state, where some events lead there from the first: what
+-- stood there before them, the record that a step on the way put in under an equal key, or nothing,
+-- which a step on the way left by taking out.
+pub data StandsSince {K V E : Type 0} (eq : K → K → Bool) (q : K) (s t : State K V E) : Type 0 where
+  As_before : t.world.table.stored q ≡ s.world.table.stored q → StandsSince eq q s t
+  As_put : (key : K) (stored : Stored V) → eq key q ≡ true →
+      t.world.table.stored q ≡ Some (key, stored) → MadeSince eq s t (PutsIn eq key stored) →
+      StandsSince eq q s t
+  As_taken : (key : K) → eq key q ≡ true → t.world.table.stored q ≡ None →
+      MadeSince eq s t (λ u c turn v. (pair : K × Stored V) × TakesOut eq key pair u c turn v) →
+      StandsSince eq q s t
+
+-- whatever events follow, each key has what it had, or what a step on the way left there
+abbrev pub RecordsStand : (K V E : Type 0) → (K → K → Bool) → Type 0
+RecordsStand K V E eq =
+    (s t : State K V E) (q : K) (es : List (Event K V E)) (rs : List (Reply K V E)) →
+    Run eq Any s es rs t → StandsSince eq q s t

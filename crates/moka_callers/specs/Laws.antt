@@ -1,7 +1,7 @@
 -- What a caller concludes of a run, as one.
 use Rattle.std.specs.Prelude.{Bool}
 use Rattle.moka_callers.specs.Changing.{StepsChangeByWrites, TableChangesBySteps}
-use Rattle.moka_callers.specs.Contents.{CommitsAreMade, RecordsAreOfCalls}
+use Rattle.moka_callers.specs.Contents.{CommitsAreMade, RecordsAreOfCalls, RecordsStand}
 use Rattle.moka_callers.specs.Living.{LivesByReplies, NumbersGoUp}
 use Rattle.moka_callers.specs.Refusing.{RefusedByCause}
 use Rattle.moka_callers.specs.Running.{RepliesAreSteps, RunSplits, RunsJoin}
@@ -22,3 +22,4 @@ pub record LawsForCallers (K V E : Type 0) (eq : K → K → Bool) : Type 0 wher
   -- what stands in it
   pub records_are_of_calls : RecordsAreOfCalls K V E eq
   pub commits_are_made : CommitsAreMade K V E eq
+  pub records_stand : RecordsStand K V E eq

@@ -1,6 +1,6 @@
 //! What stands in the table, and by whom it was put there.
 
-ghost use Rattle.moka_callers.specs.Contents.{CommitsAreMade, RecordsAreOfCalls};
+ghost use Rattle.moka_callers.specs.Contents.{CommitsAreMade, RecordsAreOfCalls, RecordsStand};
 
 /// A stored record was put in by a step of the call of its stamp: under the key of that call, and
 /// of the value that the call was started with, or was told as it had asked for the key.
@@ -12,4 +12,10 @@ pub fn records_are_of_calls<K: Eq, V, E>()
 /// key.
 pub fn commits_are_made<K: Eq, V, E>()
     ensures made { CommitsAreMade K V E K.eq }
+{}
+
+/// Whatever events follow, each key has what it had before them, what a step on the way put in under
+/// an equal key, or nothing, which a step on the way left by taking out.
+pub fn records_stand<K: Eq, V, E>()
+    ensures stands { RecordsStand K V E K.eq }
 {}

@@ -16,4 +16,5 @@ pub fn laws_for_callers<K: Eq, V, E>()
     crate::table_changes_by_steps::<K, V, E>();
     crate::records_are_of_calls::<K, V, E>();
     crate::commits_are_made::<K, V, E>();
+    crate::records_stand::<K, V, E>();
 }

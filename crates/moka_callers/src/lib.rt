@@ -14,6 +14,7 @@ pub use changing::steps_change_by_writes;
 pub use changing::table_changes_by_steps;
 pub use contents::commits_are_made;
 pub use contents::records_are_of_calls;
+pub use contents::records_stand;
 pub use laws::laws_for_callers;
 pub use living::lives_by_replies;
 pub use living::numbers_go_up;
