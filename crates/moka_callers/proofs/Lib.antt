@@ -8,3 +8,4 @@ pub mod Owning
 pub mod Values
 pub mod Stored
 pub mod Standing
+pub mod Inserted

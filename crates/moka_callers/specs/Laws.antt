@@ -2,6 +2,7 @@
 use Rattle.std.specs.Prelude.{Bool}
 use Rattle.moka_callers.specs.Changing.{StepsChangeByWrites, TableChangesBySteps}
 use Rattle.moka_callers.specs.Contents.{CommitsAreMade, RecordsAreOfCalls, RecordsStand}
+use Rattle.moka_callers.specs.Inserting.{InsertsPutIn, InsertsStand}
 use Rattle.moka_callers.specs.Living.{LivesByReplies, NumbersGoUp}
 use Rattle.moka_callers.specs.Refusing.{RefusedByCause}
 use Rattle.moka_callers.specs.Running.{RepliesAreSteps, RunSplits, RunsJoin}
@@ -23,3 +24,5 @@ pub record LawsForCallers (K V E : Type 0) (eq : K → K → Bool) : Type 0 wher
   pub records_are_of_calls : RecordsAreOfCalls K V E eq
   pub commits_are_made : CommitsAreMade K V E eq
   pub records_stand : RecordsStand K V E eq
+  pub inserts_put_in : InsertsPutIn K V E eq
+  pub inserts_stand : InsertsStand K V E eq

@@ -3,4 +3,5 @@ pub mod Running
 pub mod Living
 pub mod Changing
 pub mod Contents
+pub mod Inserting
 pub mod Laws

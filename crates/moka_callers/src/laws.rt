@@ -17,4 +17,6 @@ pub fn laws_for_callers<K: Eq, V, E>()
     crate::records_are_of_calls::<K, V, E>();
     crate::commits_are_made::<K, V, E>();
     crate::records_stand::<K, V, E>();
+    crate::inserts_put_in::<K, V, E>();
+    crate::inserts_stand::<K, V, E>();
 }

@@ -5,6 +5,7 @@
 
 mod changing;
 mod contents;
+mod inserting;
 mod laws;
 mod living;
 mod refusing;
@@ -15,6 +16,8 @@ pub use changing::table_changes_by_steps;
 pub use contents::commits_are_made;
 pub use contents::records_are_of_calls;
 pub use contents::records_stand;
+pub use inserting::inserts_put_in;
+pub use inserting::inserts_stand;
 pub use laws::laws_for_callers;
 pub use living::lives_by_replies;
 pub use living::numbers_go_up;
