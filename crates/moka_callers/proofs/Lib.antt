@@ -9,3 +9,5 @@ pub mod Values
 pub mod Stored
 pub mod Standing
 pub mod Inserted
+pub mod Since
+pub mod Answering

@@ -4,4 +4,5 @@ pub mod Living
 pub mod Changing
 pub mod Contents
 pub mod Inserting
+pub mod Reading
 pub mod Laws

@@ -8,6 +8,7 @@ mod contents;
 mod inserting;
 mod laws;
 mod living;
+mod reading;
 mod refusing;
 mod running;
 
@@ -21,6 +22,8 @@ pub use inserting::inserts_stand;
 pub use laws::laws_for_callers;
 pub use living::lives_by_replies;
 pub use living::numbers_go_up;
+pub use reading::gets_answer_stored;
+pub use reading::reads_see_writes;
 pub use refusing::refused_by_cause;
 pub use running::replies_are_steps;
 pub use running::run_splits;
