@@ -1,12 +1,11 @@
 -- A get answers what stood under its key in a state since its start.
-use Rattle.std.proofs.Common.{◌≡◌, ◌⊎◌, inl, inr, ℕ, ◌+◌, ◌≤◌, ◌==◌, Bool, true, false, cond, List, [], ◌∷◌, Option, Some, None, MatchBool, is_some, refl, sym, ap, ◌∙◌, subst, arith}
-use Rattle.moka_hist.specs.State.{State, World, Call, DeskPart}
+use Rattle.std.proofs.Common.{◌≡◌, ℕ, ◌+◌, ◌≤◌, ◌==◌, Bool, true, false, List, [], ◌∷◌, Option, Some, None, MatchBool, refl, sym, ap, ◌∙◌, subst, arith}
+use Rattle.moka_hist.specs.State.{State, World, Call}
 use Rattle.moka_hist.specs.Plan.{Item, get_plan, is_disabled, plan_of}
 use Rattle.moka_hist.specs.Plan as plan
 use Rattle.moka_hist.specs.Next.{Next, goes}
-use Rattle.moka_hist.specs.Step.{Step, state_after}
+use Rattle.moka_hist.specs.Step.{Step}
 use Rattle.moka_hist.specs.Run.{Any, Becomes, Happens, IsReached, Refuses, Run, fresh_call, last_call, started}
-use Rattle.moka_hist.specs.Visits.{is_seen}
 use Rattle.moka_hist.specs.declared.accesses.Turn.{Turn}
 use Rattle.moka_hist.specs.declared.accesses.Turn.TheVariants as turn
 use Rattle.moka_hist.specs.declared.events.Event.{Event}
@@ -15,13 +14,12 @@ use Rattle.moka_hist.specs.declared.events.Start.{Start}
 use Rattle.moka_hist.specs.declared.events.Start.TheVariants as start
 use Rattle.moka_hist.specs.declared.records.Stored.{Stored}
 use Rattle.moka_hist.specs.declared.replies.Answer.{Answer}
-use Rattle.moka_hist.specs.declared.replies.Answer.TheVariants as answer
 use Rattle.moka_hist.specs.declared.replies.Refusal.TheVariants as refusal
 use Rattle.moka_hist.specs.declared.replies.Reply.{Reply}
 use Rattle.moka_hist.specs.declared.replies.Reply.TheVariants as reply
 use Rattle.moka_laws.specs.Starting.{Leads, WasStarted}
 use Rattle.moka_laws.proofs.Alongside.{HoldsIf}
-use Rattle.moka_laws.proofs.Counting.{put_here, some_same}
+use Rattle.moka_laws.proofs.Counting.{put_here}
 use Rattle.moka_laws.proofs.Kept.{runs}
 use Rattle.moka_laws.proofs.Following.{follow, leads_more, no_leads, one_leads, step_leads}
 use Rattle.moka_laws.proofs.Outcomes.{Outcomes, outcomes}
@@ -29,7 +27,6 @@ use Rattle.moka_laws.proofs.Reached.{event_reached, run_reached, step_reached}
 use Rattle.moka_laws.proofs.Starting.{no_refusal, same_call}
 use Rattle.moka_laws.proofs.Steady.{rules_stable, step_rules}
 use Rattle.moka_laws.proofs.StepCases.{OnStep, step_cases}
-use Rattle.moka_callers.specs.Inserting.{StandsInserted}
 use Rattle.moka_callers.specs.Reading.{Answers, Between, GetsAnswerStored, Hides, Misses, ReadsSeeWrites, Shows}
 use Rattle.moka_callers.proofs.Inserted.{inserts_stand}
 use Rattle.moka_callers.proofs.Since.{IsSo, so_followed}

@@ -1,17 +1,14 @@
 -- What changes the table.
-use Rattle.std.proofs.Common.{◌≡◌, ◌⊎◌, inl, inr, ℕ, ◌+◌, ◌==◌, Bool, true, false, List, [], ◌∷◌, Option, Some, None, cond, MatchBool, MatchOption, nat_lt, refl, sym, ap, ◌∙◌, subst}
+use Rattle.std.proofs.Common.{◌≡◌, inl, inr, ℕ, ◌+◌, ◌==◌, Bool, true, false, List, [], ◌∷◌, Option, Some, None, cond, MatchBool, MatchOption, nat_lt, refl, sym, ap, ◌∙◌, subst}
 use Rattle.moka_hist.specs.State.{Call, State, World}
 use Rattle.moka_hist.specs.Plan.{Item}
 use Rattle.moka_hist.specs.Plan as plan
 use Rattle.moka_hist.specs.Dropping.{dropped}
 use Rattle.moka_hist.specs.Next.{Next}
-use Rattle.moka_hist.specs.Run.{Any, Becomes, Drops, Happens, Refuses, at_moment, last_call, started, with_desk}
-use Rattle.moka_hist.specs.Step.{Step}
+use Rattle.moka_hist.specs.Run.{Becomes, Drops, Refuses, at_moment, last_call, started, with_desk}
 use Rattle.moka_hist.specs.Tables.{taken_by}
 use Rattle.moka_hist.specs.Writing.{stamp_asked}
 use Rattle.moka_hist.specs.Telling.{is_asked, told}
-use Rattle.moka_hist.specs.declared.accesses.Turn.{Turn}
-use Rattle.moka_hist.specs.declared.events.Event.{Event}
 use Rattle.moka_hist.specs.declared.events.Event.TheVariants as event
 use Rattle.moka_hist.specs.declared.records.Mode.{Mode}
 use Rattle.moka_hist.specs.declared.records.Mode.TheVariants as mode
@@ -21,9 +18,9 @@ use Rattle.moka_hist.specs.declared.replies.Refusal.TheVariants as refusal
 use Rattle.moka_hist.specs.declared.replies.Reply.{Reply}
 use Rattle.moka_hist.specs.declared.replies.Reply.TheVariants as reply
 use Rattle.moka_laws.proofs.Counting.{none_some, some_same}
-use Rattle.moka_laws.proofs.Outcomes.{Outcomes, outcomes, passes_by}
+use Rattle.moka_laws.proofs.Outcomes.{Outcomes, outcomes}
 use Rattle.moka_laws.proofs.StepCases.{OnStep, step_cases}
-use Rattle.moka_callers.specs.Changing.{ChangesBy, MakesNoStep, StepsChangeByWrites, TableChangesBySteps}
+use Rattle.moka_callers.specs.Changing.{ChangesBy, StepsChangeByWrites, TableChangesBySteps}
 
 -- what was taken out stood there
 pub taken_stood : {K V : Type 0} (stamp : Option ℕ) (o : Option (K × Stored V)) (p : K × Stored V) →

@@ -1,11 +1,11 @@
 -- An insert that is done has put its pair in.
-use Rattle.std.proofs.Common.{◌≡◌, ◌⊎◌, inl, inr, ℕ, ◌+◌, ◌==◌, Bool, true, false, cond, List, [], ◌∷◌, Option, Some, None, is_some, refl, sym, ap, ◌∙◌, subst}
-use Rattle.moka_hist.specs.Finite.{put_at, put_key}
+use Rattle.std.proofs.Common.{◌≡◌, ◌⊎◌, inl, inr, ℕ, Bool, true, false, cond, List, [], ◌∷◌, Option, Some, None, is_some, refl, sym, ap, ◌∙◌, subst}
+use Rattle.moka_hist.specs.Finite.{put_key}
 use Rattle.moka_hist.specs.State.{State, World, Call}
 use Rattle.moka_hist.specs.Plan.{Item, insert_plan, is_disabled}
 use Rattle.moka_hist.specs.Plan as plan
 use Rattle.moka_hist.specs.Next.{Next, goes}
-use Rattle.moka_hist.specs.Step.{Step, state_after}
+use Rattle.moka_hist.specs.Step.{Step}
 use Rattle.moka_hist.specs.Run.{IsReached, fresh_call, started}
 use Rattle.moka_hist.specs.declared.accesses.Turn.{Turn}
 use Rattle.moka_hist.specs.declared.accesses.Turn.TheVariants as turn
@@ -15,13 +15,12 @@ use Rattle.moka_hist.specs.declared.replies.Answer.{Answer}
 use Rattle.moka_hist.specs.declared.replies.Answer.TheVariants as answer
 use Rattle.moka_laws.specs.Starting.{HasMade, Leads, WasStarted}
 use Rattle.moka_laws.proofs.Alongside.{HoldsIf, holds_since}
-use Rattle.moka_laws.proofs.Counting.{none_some, put_here, some_same}
+use Rattle.moka_laws.proofs.Counting.{put_here}
 use Rattle.moka_laws.proofs.Following.{leads_more, made_on, no_leads, step_leads}
 use Rattle.moka_laws.proofs.Outcomes.{Outcomes, outcomes}
 use Rattle.moka_laws.proofs.Rules.{put_plans}
 use Rattle.moka_laws.proofs.Steady.{step_rules}
 use Rattle.moka_laws.proofs.StepCases.{OnStep, step_cases}
-use Rattle.moka_callers.specs.Contents.{PutsIn}
 use Rattle.moka_callers.specs.Inserting.{InsertsPutIn, InsertsStand, PutsValue, record_of}
 use Rattle.moka_callers.proofs.Standing.{stand}
 use Rattle.moka_callers.proofs.Turning.{live_still}
@@ -148,9 +147,9 @@ module _ {K V E : Type 0} (key : K) (value : V) where
             moment,
             rest,
             is ∙ ap (λ k. plan.Write k new moment ∷ rest) f.0.0 ∙
-            ap (λ v. plan.Write key v moment ∷ rest) f.0.1,
+                ap (λ v. plan.Write key v moment ∷ rest) f.0.1,
             ap (λ k. put_key eq w.table.stored k (Some (k, record_of n new moment))) f.0.0 ∙
-            ap (λ v. put_key eq w.table.stored key (Some (key, record_of n v moment))) f.0.1,
+                ap (λ v. put_key eq w.table.stored key (Some (key, record_of n v moment))) f.0.1,
           )
       on_item (plan.Reply a) rest is f so = by so
         where

@@ -1,10 +1,9 @@
 -- The replies of a run tell which calls are live.
-use Rattle.std.proofs.Common.{◌≡◌, ℕ, ◌+◌, ◌==◌, Bool, true, false, cond, not, ◌&&◌, ◌||◌, List, [], ◌∷◌, Option, Some, None, MatchBool, MatchOption, is_some, nat_lt, refl, sym, ap, ◌∙◌, subst}
+use Rattle.std.proofs.Common.{◌≡◌, ℕ, ◌+◌, ◌==◌, Bool, true, false, cond, not, ◌&&◌, ◌||◌, [], ◌∷◌, Option, Some, None, MatchBool, MatchOption, is_some, nat_lt, refl, sym, ap, ◌∙◌, subst}
 use Rattle.std.proofs.lemmas.Bool.{eqb-true}
-use Rattle.moka_hist.specs.Finite.{put_at}
 use Rattle.moka_hist.specs.State.{Call, State}
 use Rattle.moka_hist.specs.Dropping.{dropped}
-use Rattle.moka_hist.specs.Run.{Any, Becomes, Drops, Happens, Polls, Refuses, Run, Steps, at_moment, fresh_call, last_call, reply_of, started, with_desk}
+use Rattle.moka_hist.specs.Run.{Any, Becomes, Drops, Happens, Polls, Refuses, Steps, at_moment, fresh_call, last_call, reply_of, started, with_desk}
 use Rattle.moka_hist.specs.Step.{Step}
 use Rattle.moka_hist.specs.Telling.{is_asked, told}
 use Rattle.moka_hist.specs.declared.accesses.Turn.{Turn}

@@ -2,7 +2,7 @@
 use Rattle.std.proofs.Common.{◌≡◌, ◌⊎◌, inl, inr, ℕ, zero, suc, ◌+◌, ◌==◌, Bool, true, false, List, [], ◌∷◌, ◌++◌, length, Option, Some, None, MatchBool, MatchOption, nat_lt, refl, sym, ap, ◌∙◌, subst, arith}
 use Rattle.moka_hist.specs.State.{Call, State}
 use Rattle.moka_hist.specs.Dropping.{dropped}
-use Rattle.moka_hist.specs.Run.{Any, Becomes, Drops, Goings, Happens, Polls, Refuses, Run, Steps, at_moment, last_call, reply_of, started, with_desk}
+use Rattle.moka_hist.specs.Run.{Any, Becomes, Drops, Goings, Happens, Polls, Refuses, Steps, at_moment, last_call, reply_of, started, with_desk}
 use Rattle.moka_hist.specs.Telling.{is_asked, told}
 use Rattle.moka_hist.specs.declared.accesses.Turn.{Turn}
 use Rattle.moka_hist.specs.declared.accesses.Turn.TheVariants as turn
@@ -146,7 +146,7 @@ module _ {K V E : Type 0} (eq : K → K → Bool) where
       GivesNext mid rs t → GivesNext s (r ∷ rs) t
   goes_up s mid t r rs (inl none) h =
       let same : numbers_in (r ∷ rs) ≡ numbers_in rs =
-          first_of r rs ∙ ap (λ v. v ++ numbers_in rs) none.0 in
+      first_of r rs ∙ ap (λ v. v ++ numbers_in rs) none.0 in
       record {
         in_order = subst (λ v. InOrder s.world.desk.last v) (sym same)
             (subst (λ k. InOrder k (numbers_in rs)) none.1 h.in_order);
@@ -155,7 +155,7 @@ module _ {K V E : Type 0} (eq : K → K → Bool) where
       }
   goes_up s mid t r rs (inr one) h =
       let same : numbers_in (r ∷ rs) ≡ (s.world.desk.last + 1) ∷ numbers_in rs =
-          first_of r rs ∙ ap (λ v. v ++ numbers_in rs) one.0 in
+      first_of r rs ∙ ap (λ v. v ++ numbers_in rs) one.0 in
       record {
         in_order = subst (λ v. InOrder s.world.desk.last v) (sym same)
             (one_more s.world.desk.last (numbers_in rs)

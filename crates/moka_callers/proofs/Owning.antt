@@ -1,15 +1,15 @@
 -- What a call may write goes by what it was started with and told.
-use Rattle.std.proofs.Common.{◌≡◌, ℕ, zero, suc, ◌+◌, ◌==◌, Bool, true, false, List, [], ◌∷◌, ◌++◌, map, Option, Some, None, MatchOption, refl, sym, ap, ◌∙◌, subst}
-use Rattle.moka_hist.specs.State.{State, World, Call}
+use Rattle.std.proofs.Common.{◌≡◌, ℕ, zero, suc, ◌+◌, Bool, true, false, List, [], ◌∷◌, ◌++◌, map, Option, Some, None, refl, ap}
+use Rattle.moka_hist.specs.State.{World, Call}
 use Rattle.moka_hist.specs.Plan.{Item, Aim, Removal, Shown, end_load, get_plan, insert_plan, is_disabled, iter_plan, lists_from, load_plan, loaded, look, or_insert_plan, pending_plan, plan_of, put, seek, take_out, told_on, under_lock}
 use Rattle.moka_hist.specs.Plan as plan
 use Rattle.moka_hist.specs.Next.{Next, goes}
 use Rattle.moka_hist.specs.Looking.{finds_pair, hits, keeps, misses}
-use Rattle.moka_hist.specs.Loading.{after_abort, after_read, after_told, retries}
+use Rattle.moka_hist.specs.Loading.{after_read, after_told}
 use Rattle.moka_hist.specs.Computing.{after_read_key, after_told_op, end_compute, put_told}
 use Rattle.moka_hist.specs.Maintenance.{carrying}
 use Rattle.moka_hist.specs.Writing.{nothing_answer, removed_answer, said}
-use Rattle.moka_hist.specs.Entries.{put_answer, unchanged}
+use Rattle.moka_hist.specs.Entries.{put_answer}
 use Rattle.moka_hist.specs.declared.events.Told.{Told}
 use Rattle.moka_hist.specs.declared.events.Told.TheVariants as told
 use Rattle.moka_hist.specs.declared.events.Op.TheVariants as op

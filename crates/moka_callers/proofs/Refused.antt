@@ -19,7 +19,7 @@ use Rattle.moka_hist.specs.declared.replies.Refusal.TheVariants as refusal
 use Rattle.moka_hist.specs.declared.replies.Reply.{Reply}
 use Rattle.moka_hist.specs.declared.replies.Reply.TheVariants as reply
 use Rattle.moka_laws.proofs.Counting.{none_some, some_same}
-use Rattle.moka_callers.specs.Refusing.{IsBetween, IsRefusedByCause, IsToRefuse, RefusedByCause}
+use Rattle.moka_callers.specs.Refusing.{IsRefusedByCause, IsToRefuse, RefusedByCause}
 
 same_refusal : {K V E : Type 0} (a b : Refusal) →
     ◌≡◌ {A = Reply K V E} (reply.Refused a) (reply.Refused b) → a ≡ b
@@ -82,6 +82,7 @@ module _ {K V E : Type 0} (eq : K → K → Bool) (s t : State K V E) (r : Reply
         where
           not : (why : Refusal) → ◌≡◌ {A = Reply K V E} reply.At (reply.Refused why) → ⊥
           not why is = cc
+
           none : (why : Refusal) → IsToRefuse s (event.At moment) why → ⊥
           none refusal.ClockBack back = not_back moment s.world.desk.clock off back
           none _ because = absurd because
@@ -105,6 +106,7 @@ module _ {K V E : Type 0} (eq : K → K → Bool) (s t : State K V E) (r : Reply
           not : (why : Refusal) →
               ◌≡◌ {A = Reply K V E} (reply.Call (s.world.desk.last + 1)) (reply.Refused why) → ⊥
           not why is = cc
+
           none : (why : Refusal) → IsToRefuse s (event.Start start) why → ⊥
           none refusal.CallsSpent spent = not_spent s.world.desk.last off spent
           none _ because = absurd because
@@ -165,6 +167,7 @@ module _ {K V E : Type 0} (eq : K → K → Bool) (s t : State K V E) (r : Reply
         where
           not : (why : Refusal) → ◌≡◌ {A = Reply K V E} reply.Told (reply.Refused why) → ⊥
           not why is = cc
+
           none : (why : Refusal) → IsToRefuse s (event.Tell n answer) why → ⊥
           none refusal.NotAsked off = false≢true (sym off ∙ asked)
           none _ because = absurd because
@@ -181,6 +184,7 @@ module _ {K V E : Type 0} (eq : K → K → Bool) (s t : State K V E) (r : Reply
         where
           not : (why : Refusal) → ◌≡◌ {A = Reply K V E} reply.Dropped (reply.Refused why) → ⊥
           not why is = cc
+
           none : (why : Refusal) → IsToRefuse s (event.Drop n) why → ⊥
           none refusal.UnknownCall is = none_some (sym is ∙ live)
           none refusal.NotParked b =

@@ -1,9 +1,7 @@
 -- What a run is made of.
-use Rattle.std.proofs.Common.{◌≡◌, ◌⊎◌, inl, inr, ℕ, Bool, List, [], ◌∷◌, ◌++◌, Option, Some, None, MatchOption, refl, sym, ap, ◌∙◌, subst}
+use Rattle.std.proofs.Common.{◌≡◌, inl, inr, ℕ, Bool, [], ◌∷◌, Option, Some, None, MatchOption, refl, ap, subst}
 use Rattle.moka_hist.specs.State.{Call, State}
-use Rattle.moka_hist.specs.Run.{Any, Goings, Happens, IsReached, Polls, Refuses, Run, Steps, reply_of}
-use Rattle.moka_hist.specs.declared.events.Event.{Event}
-use Rattle.moka_hist.specs.declared.events.Event.TheVariants as event
+use Rattle.moka_hist.specs.Run.{Any, Goings, Happens, IsReached, Polls, Refuses, Run, Steps}
 use Rattle.moka_hist.specs.declared.replies.Refusal.TheVariants as refusal
 use Rattle.moka_hist.specs.declared.replies.Reply.{Reply}
 use Rattle.moka_laws.proofs.Counting.{none_some}

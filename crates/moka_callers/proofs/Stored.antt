@@ -1,5 +1,5 @@
 -- What stands in the table was put there by the call of its stamp.
-use Rattle.std.proofs.Common.{◌≡◌, ◌⊎◌, inl, inr, ℕ, ◌+◌, ◌<◌, ◌==◌, Bool, true, false, cond, List, [], ◌∷◌, ◌++◌, Option, Some, None, Contains, refl, sym, ap, ◌∙◌, subst, arith}
+use Rattle.std.proofs.Common.{◌≡◌, ◌⊎◌, inl, inr, ℕ, ◌<◌, ◌==◌, Bool, true, false, cond, List, [], ◌∷◌, ◌++◌, Some, None, refl, sym, ap, ◌∙◌, subst, arith}
 use Rattle.std.proofs.lemmas.Bool.{eqb-true}
 use Rattle.moka_hist.specs.Finite.{put_key, times}
 use Rattle.moka_hist.specs.State.{State, World, Call, fresh}
@@ -9,7 +9,7 @@ use Rattle.moka_hist.specs.Next.{Next}
 use Rattle.moka_hist.specs.Step.{Step}
 use Rattle.moka_hist.specs.Tables.{taken_by}
 use Rattle.moka_hist.specs.Writing.{stamp_asked}
-use Rattle.moka_hist.specs.Run.{IsReached, started}
+use Rattle.moka_hist.specs.Run.{IsReached}
 use Rattle.moka_hist.specs.declared.accesses.Turn.{Turn}
 use Rattle.moka_hist.specs.declared.records.Stored.{Stored}
 use Rattle.moka_laws.specs.Starting.{HasMade, Leads}
@@ -22,7 +22,7 @@ use Rattle.moka_laws.proofs.Outcomes.{Outcomes, outcomes}
 use Rattle.moka_laws.proofs.Reached.{fresh_reached, run_reached}
 use Rattle.moka_laws.proofs.StepCases.{OnStep, step_cases}
 use Rattle.moka_callers.specs.Changing.{ChangesBy}
-use Rattle.moka_callers.specs.Contents.{ChangesTable, CommitsAreMade, PutsIn, PutsOwn, RecordsAreOfCalls, TakesOut}
+use Rattle.moka_callers.specs.Contents.{ChangesTable, CommitsAreMade, PutsOwn, RecordsAreOfCalls}
 use Rattle.moka_callers.proofs.Changed.{by_writes, taken_stood}
 use Rattle.moka_callers.proofs.Values.{writes_own}
 
@@ -273,8 +273,12 @@ module _ {K V E : Type 0} (eq : K → K → Bool) where
           0 < times x (s.world.table.committed ++ n ∷ []) → HasMade eq t x (ChangesTable eq x)
       by x true e has = subst (λ k. HasMade eq t k (ChangesTable eq k)) (sym (eqb-true x n e)) now
       by x false e has = made_on eq s t x (ChangesTable eq x) led
-          (i.made x (omega (arith, has, times_last x n s.world.table.committed,
-          ap (λ b. cond {A = ℕ} b 1 0) e)))
+          (i.made x (omega (
+            arith,
+            has,
+            times_last x n s.world.table.committed,
+            ap (λ b. cond {A = ℕ} b 1 0) e,
+          )))
 
   made_step : (s t : State K V E) (n : ℕ) (turn : Turn K V E) → Leads eq s t → AreMade s →
       Step eq s n turn t → AreMade t

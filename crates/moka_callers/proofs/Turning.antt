@@ -1,6 +1,5 @@
 -- A step leaves its call live exactly where it doesn't answer.
-use Rattle.std.proofs.Common.{◌≡◌, ℕ, zero, suc, ◌+◌, ◌==◌, Bool, true, false, cond, List, [], ◌∷◌, ◌++◌, map, Option, Some, None, is_some, refl, sym, ap, ◌∙◌, subst}
-use Rattle.moka_hist.specs.Finite.{put_at}
+use Rattle.std.proofs.Common.{◌≡◌, ℕ, zero, suc, ◌+◌, ◌==◌, Bool, true, false, List, [], ◌∷◌, ◌++◌, map, Option, Some, is_some, refl, ap, ◌∙◌}
 use Rattle.moka_hist.specs.State.{State, World, Call}
 use Rattle.moka_hist.specs.Plan.{Item, Aim, lists_from}
 use Rattle.moka_hist.specs.Plan as plan
@@ -9,7 +8,7 @@ use Rattle.moka_hist.specs.Looking.{hits, misses, keeps, finds_pair}
 use Rattle.moka_hist.specs.Loading.{after_abort, after_read, after_told, retries}
 use Rattle.moka_hist.specs.Computing.{after_read_key, after_told_op}
 use Rattle.moka_hist.specs.Maintenance.{carrying}
-use Rattle.moka_hist.specs.Step.{Step, next_of, state_after}
+use Rattle.moka_hist.specs.Step.{Step, next_of}
 use Rattle.moka_hist.specs.Run.{Any, Goings}
 use Rattle.moka_hist.specs.declared.accesses.Turn.{Turn}
 use Rattle.moka_hist.specs.declared.accesses.Turn.TheVariants as turn

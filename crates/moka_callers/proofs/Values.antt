@@ -1,11 +1,10 @@
 -- A call writes no value but one that it has for the key.
-use Rattle.std.proofs.Common.{◌≡◌, ℕ, ◌+◌, ◌==◌, Bool, true, false, List, [], ◌∷◌, Option, Some, None, MatchOption, refl, sym, ap, ◌∙◌, subst}
-use Rattle.moka_hist.specs.State.{State, World, Call}
+use Rattle.std.proofs.Common.{◌≡◌, ℕ, Bool, true, false, List, [], ◌∷◌, Option, Some, None, MatchOption, refl, sym, subst}
+use Rattle.moka_hist.specs.State.{State, Call}
 use Rattle.moka_hist.specs.Plan.{Item, Aim, get_plan, insert_plan, is_disabled, iter_plan, load_plan, look, or_insert_plan, pending_plan, plan_of, seek, under_lock}
 use Rattle.moka_hist.specs.Plan as plan
-use Rattle.moka_hist.specs.Next.{Next}
-use Rattle.moka_hist.specs.Step.{Step, state_after}
-use Rattle.moka_hist.specs.Run.{IsReached, fresh_call, started}
+use Rattle.moka_hist.specs.Step.{Step}
+use Rattle.moka_hist.specs.Run.{IsReached, started}
 use Rattle.moka_hist.specs.declared.accesses.Turn.{Turn}
 use Rattle.moka_hist.specs.declared.events.Start.{Start}
 use Rattle.moka_hist.specs.declared.events.Start.TheVariants as start
@@ -23,7 +22,7 @@ use Rattle.moka_laws.proofs.Following.{made_on, no_leads, step_leads}
 use Rattle.moka_laws.proofs.Rules.{put_plans}
 use Rattle.moka_laws.proofs.StepCases.{step_cases}
 use Rattle.moka_callers.specs.Contents.{HasValue, TakesValue}
-use Rattle.moka_callers.proofs.Owning.{After, ItemOwned, LeftOwned, PlanOwned, lists_owned, on_plan, out_owned}
+use Rattle.moka_callers.proofs.Owning.{After, ItemOwned, LeftOwned, PlanOwned, lists_owned, on_plan}
 
 module _ {K V E : Type 0} (Owns More : K → V → Type 0) (For : K → Type 0)
     (f : (key : K) (value : V) → Owns key value → More key value) where

@@ -1,5 +1,5 @@
 -- What stands in the table, by whom it was put there, and what a call that committed has done.
-use Rattle.std.specs.Prelude.{◌≡◌, ◌⊎◌, ℕ, Bool, true, List, ◌∷◌, Option, Some, None, Contains, MatchOption}
+use Rattle.std.specs.Prelude.{◌≡◌, ◌⊎◌, ℕ, Bool, true, List, ◌∷◌, Some, None, Contains, MatchOption}
 use Rattle.moka_hist.specs.Finite.{put_key}
 use Rattle.moka_hist.specs.State.{Call, State}
 use Rattle.moka_hist.specs.Plan.{Item, Removal}

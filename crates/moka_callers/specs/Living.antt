@@ -1,5 +1,5 @@
 -- Which calls are live, by the replies so far.
-use Rattle.std.specs.Prelude.{◌≡◌, ℕ, ◌+◌, ◌==◌, suc, zero, Bool, true, false, not, ◌&&◌, ◌||◌, List, [], ◌∷◌, length, is_some}
+use Rattle.std.specs.Prelude.{◌≡◌, ℕ, ◌+◌, ◌==◌, suc, zero, Bool, false, not, ◌&&◌, ◌||◌, List, [], ◌∷◌, length, is_some}
 use Rattle.moka_hist.specs.State.{State}
 use Rattle.moka_hist.specs.Run.{Any, Run}
 use Rattle.moka_hist.specs.declared.events.Event.{Event}

@@ -1,5 +1,5 @@
 -- What a get that was started after an insert answers.
-use Rattle.std.specs.Prelude.{◌≡◌, ℕ, Bool, true, false, List, Option, Some, None}
+use Rattle.std.specs.Prelude.{◌≡◌, ℕ, Bool, true, false, List, Some, None}
 use Rattle.moka_hist.specs.Plan.{is_disabled}
 use Rattle.moka_hist.specs.State.{State}
 use Rattle.moka_hist.specs.Step.{Step}

@@ -1,5 +1,5 @@
 -- What is read back after it was stored. The errors of loads are numbers, which no lookup answers.
-use Rattle.std.specs.Prelude.{◌≡◌, ℕ, Bool, false, List, [], ◌∷◌, Option, None}
+use Rattle.std.specs.Prelude.{◌≡◌, ℕ, Bool, false, List, [], ◌∷◌, Option, Some, None}
 use Rattle.moka_hist.specs.State.{Handed, State, fresh}
 use Rattle.moka_hist.specs.Places.{IsLawful}
 use Rattle.moka_hist.specs.Run.{Run}
@@ -57,7 +57,7 @@ found_in (reply.Answer (answer.Found found)) = found
 found_in _ = None
 
 -- The reference cache, begun with no record, stored the value under the key in one run, and in a
--- second the lookup of the key found this. Each state on the way is lawful.
+-- second the lookup of the key found this, which is the value. Each state on the way is lawful.
 pub record IsReadBack {K V : Type 0} (eq : K → K → Bool) (key : K) (value : V) (found : Option V)
     : Type 0 where
   pub stored : List (Reply K V ℕ)
@@ -69,3 +69,4 @@ pub record IsReadBack {K V : Type 0} (eq : K → K → Bool) (key : K) (value : 
   pub final : State K V ℕ
   pub looks : Run eq (IsLawful eq) mid (looking key) (call ∷ last ∷ []) final
   pub is : found ≡ found_in last
+  pub same : found ≡ Some value

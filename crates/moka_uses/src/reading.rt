@@ -134,7 +134,7 @@ fn build<K: Eq + Hash + Exact, V: Exact>(
 }
 
 /// Builds a cache that tests no record, and whose loads may fail with a status. Stores the value
-/// under the key in one run, and in a second looks the key up. Answers what that found.
+/// under the key in one run, and in a second looks the key up. Answers what that found: the value.
 pub fn read_back<K: Eq + Hash + Exact, V: Exact>(
     alloc: Global,
     key: K,
@@ -143,6 +143,9 @@ pub fn read_back<K: Eq + Hash + Exact, V: Exact>(
     ensures { IfOk result (λ found. IsReadBack K.eq key value found) }
 {
     moka_laws::reached_by_lawful_run::<K, V, u16>();
+    moka_small::fresh_is_empty::<K, V, u16>();
+    moka_small::start_is_started::<K, V, u16>();
+    moka_small::poll_is_polled::<K, V, u16>();
     let looks = looking(alloc, key.clone()?)?;
     let stores = storing(alloc, key, value)?;
     let mut cache = build(alloc)?;

@@ -13,7 +13,7 @@ returns g c =
     IfOk-weaker c.found.result _ (λ found. IsReadBack eq c.args.key c.args.value found)
     (λ found is. read_back_of eq c.in_ok-cache.cache c.run_all.new.cache c.run_all-looked.new.cache c.args.key c.args.value c.deref.result.now
     c.deref-2.result.now c.in-Ok.field-0.replies c.in_ok-report.report.replies is.0 is.1 found
-    c.reached_by_lawful_run.ensures.reached c.in_ok-cache.ensures.fresh (c.deref.ensures.value ∙ c.in_ok-stores.ensures)
+    g.met.K.Eq.laws c.fresh_is_empty.ensures.fresh c.start_is_started.ensures.started c.poll_is_polled.ensures.polled c.reached_by_lawful_run.ensures.reached c.in_ok-cache.ensures.fresh (c.deref.ensures.value ∙ c.in_ok-stores.ensures)
     c.in-Ok.ensures.run looks c.in_ok-report.ensures.run (sym c.as_slice.ensures ∙ is.2) is.3)
     c.found.ensures
 
