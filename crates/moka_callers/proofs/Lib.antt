@@ -11,3 +11,4 @@ pub mod Standing
 pub mod Inserted
 pub mod Since
 pub mod Answering
+pub mod Fresh

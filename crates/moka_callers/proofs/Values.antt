@@ -38,13 +38,13 @@ module _ {K V E : Type 0} (Owns More : K → V → Type 0) (For : K → Type 0)
   plan_more (item ∷ rest) h = (item_more item h.0, plan_more rest h.1)
 
 -- a call that was started so is for the key, and brought nothing
-abbrev For : {K V : Type 0} → Start K V → K → Type 0
+abbrev pub For : {K V : Type 0} → Start K V → K → Type 0
 For begin key = (brought begin ≡ None) × (key_started begin ≡ Some key)
 
 module _ {K V E : Type 0} (eq : K → K → Bool) (n : ℕ) (s : State K V E) (parts : ℕ)
     (rules : Rules) where
   -- what a call has to do as it is started
-  abbrev Begins : Start K V → List (Item K V E) → Type 0
+  abbrev pub Begins : Start K V → List (Item K V E) → Type 0
   Begins begin p = PlanOwned (HasValue eq begin n s) (For begin) p
 
   loads_begin : (begin : Start K V) (sought : Sought K) → For begin sought.load.key → (b : Bool) →
@@ -52,7 +52,7 @@ module _ {K V E : Type 0} (eq : K → K → Bool) (n : ℕ) (s : State K V E) (p
   loads_begin begin sought h true = (tt, (h, tt))
   loads_begin begin sought h false = (tt, (h, tt))
 
-  begins : (begin : Start K V) → Begins begin (plan_of parts rules begin)
+  pub begins : (begin : Start K V) → Begins begin (plan_of parts rules begin)
   begins (start.Get key) = by (is_disabled rules)
     where
       by : (b : Bool) → Begins (start.Get key) (get_plan b key)
@@ -114,7 +114,7 @@ module _ {K V E : Type 0} (eq : K → K → Bool) (n : ℕ) (s : State K V E) (p
 
 module _ {K V E : Type 0} (eq : K → K → Bool) (begin : Start K V) (n : ℕ) where
   -- what the call has still to do goes by what it has
-  abbrev IsOwn : State K V E → Call K V E → Type 0
+  abbrev pub IsOwn : State K V E → Call K V E → Type 0
   IsOwn s c = PlanOwned (HasValue eq begin n s) (For begin) c.plan
 
   has_on : (s v : State K V E) → Leads eq s v → (key : K) (value : V) →
@@ -131,7 +131,7 @@ module _ {K V E : Type 0} (eq : K → K → Bool) (begin : Start K V) (n : ℕ) 
       by None h = (h.0, made_on eq s v n (TakesValue n key value) led h.1)
       by (Some pair) h = h
 
-  own_on : (s v : State K V E) (c : Call K V E) → Leads eq s v →
+  pub own_on : (s v : State K V E) (c : Call K V E) → Leads eq s v →
       v.world.desk.rules ≡ s.world.desk.rules → IsOwn s c → IsOwn v c
   own_on s v c led rules h =
       plan_more (HasValue eq begin n s) (HasValue eq begin n v) (For begin) (has_on s v led) c.plan h
@@ -163,7 +163,7 @@ module _ {K V E : Type 0} (eq : K → K → Bool) (begin : Start K V) (n : ℕ) 
   as_held t None h = tt
   as_held t (Some c) h = h
 
-  own_step : (s t : State K V E) (turn : Turn K V E) → IsReached eq s →
+  pub own_step : (s t : State K V E) (turn : Turn K V E) → IsReached eq s →
       HoldsIf IsOwn s (s.calls n) → Step eq s n turn t → HoldsIf IsOwn t (t.calls n)
   own_step s t turn reached h step =
       let c : Call K V E = step.call in

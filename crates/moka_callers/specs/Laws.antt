@@ -2,7 +2,7 @@
 use Rattle.std.specs.Prelude.{Bool}
 use Rattle.moka_callers.specs.Changing.{StepsChangeByWrites, TableChangesBySteps}
 use Rattle.moka_callers.specs.Contents.{CommitsAreMade, RecordsAreOfCalls, RecordsStand}
-use Rattle.moka_callers.specs.Inserting.{InsertsPutIn, InsertsStand}
+use Rattle.moka_callers.specs.Inserting.{FreshIsPut, InsertsPutIn, InsertsStand}
 use Rattle.moka_callers.specs.Living.{LivesByReplies, NumbersGoUp}
 use Rattle.moka_callers.specs.Reading.{GetsAnswerStored, ReadsSeeWrites}
 use Rattle.moka_callers.specs.Refusing.{RefusedByCause}
@@ -27,6 +27,7 @@ pub record LawsForCallers (K V E : Type 0) (eq : K → K → Bool) : Type 0 wher
   pub records_stand : RecordsStand K V E eq
   pub inserts_put_in : InsertsPutIn K V E eq
   pub inserts_stand : InsertsStand K V E eq
+  pub fresh_is_put : FreshIsPut K V E eq
   -- what a get answers
   pub gets_answer_stored : GetsAnswerStored K V E eq
   pub reads_see_writes : ReadsSeeWrites K V E eq

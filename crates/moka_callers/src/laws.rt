@@ -19,6 +19,7 @@ pub fn laws_for_callers<K: Eq, V, E>()
     crate::records_stand::<K, V, E>();
     crate::inserts_put_in::<K, V, E>();
     crate::inserts_stand::<K, V, E>();
+    crate::fresh_is_put::<K, V, E>();
     crate::gets_answer_stored::<K, V, E>();
     crate::reads_see_writes::<K, V, E>();
 }

@@ -14,7 +14,7 @@ mod running;
 
 pub use changing::{steps_change_by_writes, table_changes_by_steps};
 pub use contents::{commits_are_made, records_are_of_calls, records_stand};
-pub use inserting::{inserts_put_in, inserts_stand};
+pub use inserting::{fresh_is_put, inserts_put_in, inserts_stand};
 pub use laws::laws_for_callers;
 pub use living::{lives_by_replies, numbers_go_up};
 pub use reading::{gets_answer_stored, reads_see_writes};
