@@ -40,9 +40,89 @@ const ROWS: [(&str, &str); 7] = [
     ),
 ];
 
+/// Schedules in which a call is dropped at each kind of point where it may be parked. Each is followed
+/// to its end: what it left is told, taken up, posted and applied, so that nothing is owed, and each
+/// committed write stands in one place.
+const PARKED: [(&str, &str); 15] = [
+    // At a key's lock.
+    (
+        "cache log=8 listener / start insert 1 5 / poll 1 / start insert 1 6 / poll 2 / start insert 1 7 / poll 3 / drop 3 / tell 2 done / poll 2 / start pending / poll 4",
+        "call 1 / answer done / call 2 / ask listener 1 5 Replaced / call 3 / wait / dropped / told / answer done / call 4 / answer done / entry 1 6 stamp 2 at 0 / write 1 applied / write 2 applied / notice 2 1 5 Replaced ended",
+    ),
+    // At an owner's end.
+    (
+        "cache log=8 / start get_with 1 / poll 1 / start get_with 1 / poll 2 / drop 2 / tell 1 value 7 / poll 1 / start pending / poll 3",
+        "call 1 / ask init / call 2 / wait / dropped / told / answer value 7 fresh / call 3 / answer done / entry 1 7 stamp 1 at 0 / write 1 applied",
+    ),
+    // At its own ask, of a load and of a compute, and once it was told.
+    (
+        "cache log=8 / start get_with 1 / poll 1 / drop 1 / tell 1 value 7 / start pending / poll 2",
+        "call 1 / ask init / dropped / refused NotAsked / call 2 / answer done",
+    ),
+    (
+        "cache log=8 / start compute 1 / poll 1 / drop 1 / tell 1 put 7 / start pending / poll 2",
+        "call 1 / ask compute none / dropped / refused NotAsked / call 2 / answer done",
+    ),
+    (
+        "cache log=8 / start get_with 1 / poll 1 / tell 1 value 7 / drop 1 / start get 1 / poll 2 / start pending / poll 3",
+        "call 1 / ask init / told / dropped / call 2 / answer none / call 3 / answer done",
+    ),
+    (
+        "cache log=8 / start compute 1 / poll 1 / tell 1 put 7 / drop 1 / start get 1 / poll 2 / start pending / poll 3",
+        "call 1 / ask compute none / told / dropped / call 2 / answer none / call 3 / answer done",
+    ),
+    // At its own notice, which runs or has ended: of a write in another's place, a removal, a compute.
+    (
+        "cache log=8 listener / start insert 1 5 / poll 1 / start insert 1 6 / poll 2 / drop 2 / tell 2 done / start pending / poll 3",
+        "call 1 / answer done / call 2 / ask listener 1 5 Replaced / dropped / told / call 3 / answer done / entry 1 6 stamp 2 at 0 / write 1 applied / write 2 applied / notice 2 1 5 Replaced ended",
+    ),
+    (
+        "cache log=8 listener / start insert 1 5 / poll 1 / start insert 1 6 / poll 2 / tell 2 done / drop 2 / start pending / poll 3",
+        "call 1 / answer done / call 2 / ask listener 1 5 Replaced / told / dropped / call 3 / answer done / entry 1 6 stamp 2 at 0 / write 1 applied / write 2 applied / notice 2 1 5 Replaced ended",
+    ),
+    (
+        "cache log=8 listener / start insert 1 5 / poll 1 / start remove 1 / poll 2 / drop 2 / tell 2 done / start pending / poll 3",
+        "call 1 / answer done / call 2 / ask listener 1 5 Explicit / dropped / told / call 3 / answer done / write 1 applied / write 2 applied / notice 2 1 5 Explicit ended",
+    ),
+    (
+        "cache log=8 listener / start insert 1 5 / poll 1 / start compute 1 / poll 2 / tell 2 put 6 / poll 2 / drop 2 / tell 2 done / start pending / poll 3",
+        "call 1 / answer done / call 2 / ask compute 1 5 / told / ask listener 1 5 Replaced / dropped / told / call 3 / answer done / entry 1 6 stamp 2 at 0 / write 1 applied / write 2 applied / notice 2 1 5 Replaced ended",
+    ),
+    // At the notice of an owed write.
+    (
+        "cache log=8 listener / start insert 1 5 / poll 1 / start insert 1 6 / poll 2 / drop 2 / start get 1 / poll 3 / drop 3 / tell 2 done / start pending / poll 4",
+        "call 1 / answer done / call 2 / ask listener 1 5 Replaced / dropped / call 3 / wait / dropped / told / call 4 / answer done / entry 1 6 stamp 2 at 0 / write 1 applied / write 2 applied / notice 2 1 5 Replaced ended",
+    ),
+    // At the maintenance turn: maintenance between two steps can't be dropped, and a call that waits can.
+    (
+        "cache log=1 / start insert 1 5 / poll 1 / start pending / step 2 / step 2 / start insert 2 6 / poll 3 / start insert 3 7 / poll 4 / drop 2 / drop 3 / poll 4 / poll 2 / poll 4 / start pending / poll 5",
+        "call 1 / answer done / call 2 / going / going / call 3 / wait / call 4 / wait / refused NotParked / dropped / wait / answer done / answer done / call 5 / answer done / entry 1 5 stamp 1 at 0 / entry 2 6 stamp 3 at 0 / entry 3 7 stamp 4 at 0 / write 1 applied / write 3 applied / write 4 applied",
+    ),
+    // At an item of a walk.
+    (
+        "cache log=8 / start insert 1 5 / poll 1 / start iter / poll 2 / drop 2 / poll 2 / start pending / poll 3",
+        "call 1 / answer done / call 2 / item 1 5 / dropped / refused UnknownCall / call 3 / answer done / entry 1 5 stamp 1 at 0 / write 1 applied",
+    ),
+    // Two writes are left with their notices, and a third call takes both up.
+    (
+        "cache log=8 listener / start insert 1 5 / poll 1 / start insert 2 5 / poll 2 / start insert 1 6 / poll 3 / start insert 2 6 / poll 4 / drop 3 / drop 4 / start get 1 / poll 5 / drop 5 / tell 4 done / start get 2 / poll 6 / poll 6 / tell 3 done / poll 6",
+        "call 1 / answer done / call 2 / answer done / call 3 / ask listener 1 5 Replaced / call 4 / ask listener 2 5 Replaced / dropped / dropped / call 5 / wait / dropped / told / call 6 / wait / wait / told / answer some 6 / entry 1 6 stamp 3 at 0 / entry 2 6 stamp 4 at 0 / write 1 logged / write 2 logged / write 3 logged / write 4 logged / notice 3 1 5 Replaced ended / notice 4 2 5 Replaced ended",
+    ),
+    // An owner that was told is dropped, and then the next one.
+    (
+        "cache log=8 / start optional 1 / start optional 1 / start optional 1 / poll 1 / poll 2 / poll 3 / tell 1 value 4 / drop 1 / poll 3 / poll 2 / drop 3 / poll 2 / tell 2 nothing / poll 2",
+        "call 1 / call 2 / call 3 / ask init / wait / wait / told / dropped / ask init / wait / dropped / ask init / told / answer nothing",
+    ),
+];
+
 #[test]
 fn schedules_with_dropped_calls_are_reported(rt: HostRuntime) -> Result<(), Fail> {
     are_reported(&rt, &ROWS)
+}
+
+#[test]
+fn a_call_may_be_dropped_wherever_it_is_parked(rt: HostRuntime) -> Result<(), Fail> {
+    are_reported(&rt, &PARKED)
 }
 
 /// A schedule in which so many owners of one load are dropped, each before the call that waits for
