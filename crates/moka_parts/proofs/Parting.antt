@@ -1,19 +1,44 @@
 -- What the map of a part has is what the history says.
-use Rattle.std.proofs.Common.{◌≡◌, ℕ, ◌+◌, ◌==◌, Bool, true, false, cond, List, [], ◌∷◌, ◌++◌, refl, ap, sym, subst, ◌∙◌, arith, Option, None, IfSome}
+use Rattle.std.proofs.Common.{◌≡◌, ℕ, ◌+◌, ◌<◌, ◌==◌, Bool, true, false, cond, List, [], ◌∷◌, ◌++◌, refl, ap, sym, subst, ◌∙◌, arith, Option, None, IfSome}
 use Rattle.std.proofs.lemmas.Bool.{eq-eqb, eqb-true}
 use Rattle.std.specs.HashMap.{HashMap}
 use mathlib.Core.List.{IsPrefix}
-use Rattle.logbook.specs.Pages.{Book, Named}
+use Rattle.logbook.specs.Pages.{Book, Named, Nib, nib, may_make_home}
 use Rattle.moka_parts.specs.declared.change.Change.{Change}
 use Rattle.moka_parts.specs.declared.held.Held.{Held}
 use Rattle.moka_parts.specs.declared.note.Note.{Note}
-use Rattle.moka_parts.specs.declared.note.Note.TheVariants.{Changed}
+use Rattle.moka_parts.specs.declared.note.Note.TheVariants.{Opened, Changed}
 use Rattle.moka_parts.specs.Changes.{pair_put, pair_after, map_after, count_of}
 use Rattle.moka_parts.specs.Logs.{changes_in, IsOpenedFor, Counts, Grows}
-use Rattle.moka_parts.specs.Pairs.{pair_at}
+use Rattle.moka_parts.specs.Pairs.{pair_at, pair_in}
 use Rattle.moka_parts.specs.Parts.{IsPart, IsIn}
+use Rattle.moka_parts.specs.Rules.{word_of}
 use Rattle.moka_parts.proofs.Prefixes.{prefix_trans}
 use Rattle.moka_parts.proofs.Histories.{pair_after-append, count_of-more, part_stays, changes_in-prefix, changes_in-more, opened_same}
+use Rattle.moka_parts.proofs.Steps.{nothing_is_legal}
+
+-- the word that was made with the pen of this number
+pub word_made : (word : Named) (pen : Nib) (of book : Book) (number : ℕ) → word ≡ record { tracked = true; key = pen.key; book = of } → of ≡ book → pen ≡ nib may_make_home number 0
+    → word ≡ word_of book number
+word_made word pen of book number is of_is pen_is = is ∙ (λ i. record { tracked = true; key = (pen_is i).key; book = of_is i })
+
+-- a part without pairs, whose front has no change
+pub just_made : {K V S : Type 0} (eq : K → K → Bool) (part : S → K → ℕ) (holds : K → V → Type 0) (book : Book) (number : ℕ) (word : Named) (front : List (Note K V S))
+    (map : HashMap K (Held K V) S) → number < 64 → word ≡ word_of book number → (s : S) → front ≡ Opened s ∷ [] → map.entries ≡ []
+    → IsPart eq part holds book number 0 word front map
+just_made {K} {V} {S} eq part holds book number word front map small word_is s opened none =
+    let first : Counts {V = V} eq part s number 0 (Opened s ∷ []) = record { opened = refl; count_is = refl; legal = nothing_is_legal eq } in
+    let no_pair : (q : K) → pair_at eq map q ≡ None = λ q. ap (λ (es : List (K × Held K V)). pair_in eq es q) none in
+    let none_after : (q : K) (b : Bool) → None ≡ cond b (map_after eq (changes_in front) q) None =
+    λ q. elim [ true ↦ sym (ap (λ (l : List (Note K V S)). map_after eq (changes_in l) q) opened) | false ↦ refl ] in
+    record {
+      hasher = s;
+      small = small;
+      word_is = word_is;
+      counts = subst (λ (l : List (Note K V S)). Counts eq part s number 0 l) (sym opened) first;
+      same = λ q. no_pair q ∙ none_after q (part s q == number);
+      meets = λ q. subst (λ (o : Option (K × V)). IfSome o (λ x. holds q x.1)) (sym (no_pair q)) tt;
+    }
 
 module _ {K V S : Type 0} (eq : K → K → Bool) (part : S → K → ℕ) (holds : K → V → Type 0)
     (alike : (s : S) (x y : K) → eq x y ≡ true → part s x ≡ part s y) where

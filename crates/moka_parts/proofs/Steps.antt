@@ -30,7 +30,7 @@ same_or_not n =
 below_door : (k : ℕ) → k < 65 → k ≢ 64 → k < 64
 below_door k below apart = omega (arith, apart)
 
-nothing_is_legal : {K V : Type 0} (eq : K → K → Bool) → IsLegal {K = K} {V = V} eq []
+pub nothing_is_legal : {K V : Type 0} (eq : K → K → Bool) → IsLegal {K = K} {V = V} eq []
 nothing_is_legal eq before c after e = absurd (omega (arith, ap length e, length-append before (c ∷ after)))
 
 -- the log of a book that was just opened
