@@ -11,7 +11,7 @@ ghost use Rattle.moka_parts.specs.Pairs.{lent, pair_in, PutsAt, SamePairs};
 
 use crate::counted::Counted;
 use crate::held::Held;
-use crate::part::{answered, copied, holds_of, refused};
+use crate::part::{answered, copied, holds_of, ignore, refused};
 use crate::placing::are_of;
 use crate::{Fact, pairs};
 use moka_values::Exact;
@@ -104,7 +104,7 @@ impl<K: Eq + Hash, V, S: BuildHasher, F: Fact<K, V>> Bare<K, V, S, F> {
         ensures fact { IfOk result.0 (λ there. IfSome there (F.holds key)) }
     {
         match copied(self.find(&key)) {
-            Ok(None) => answered(self.put(key, value, |_| ())),
+            Ok(None) => answered(self.put(key, value, ignore)),
             found => (
                 found,
                 Some(Held {

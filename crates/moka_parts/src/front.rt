@@ -79,19 +79,6 @@ impl<K: Eq + Hash, V, S: BuildHasher, J: Naming> Front<K, V, S, J> {
         self.seen.learn(&other.seen);
     }
 
-    /// Sees the history as it is, and answers how many changes of the part it has.
-    pub(crate) fn look(&mut self, word: &Word<Note<K, V, S>, u64, Law>, number: usize) -> u64
-        requires word { (word.now ≡ word_of J.book number) × (number < 64) }
-        ensures grows { IsPrefix self.old self.new }
-        ensures counts { (s : S) × Counts K.eq
-            (part_in S.BuildHasher S.Hasher.Hasher K.hash_input) s number result self.new }
-    {
-        let mut offer: Offer<Note<K, V, S>, u64, Law, Nothing> = self
-            .seen
-            .plain::<Nothing, (), Look>(&());
-        word.load::<Look, Nothing>(&mut self.seen, &mut offer)
-    }
-
     /// Sees what both others have seen, and the history as it is. Answers whether the part of this
     /// number is the one that is asked for, and has so many changes.
     pub(crate) fn sees(
@@ -115,7 +102,10 @@ impl<K: Eq + Hash, V, S: BuildHasher, J: Naming> Front<K, V, S, J> {
         if number != asked {
             return false;
         }
-        self.look(word, asked) == count
+        let mut offer: Offer<Note<K, V, S>, u64, Law, Nothing> = self
+            .seen
+            .plain::<Nothing, (), Look>(&());
+        word.load::<Look, Nothing>(&mut self.seen, &mut offer) == count
     }
 
     /// Draws a ticket that nobody has spent, by a step on this word of the book, and sees the

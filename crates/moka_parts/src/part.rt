@@ -235,7 +235,7 @@ impl<K: Eq + Hash, V, S: BuildHasher, J: Naming, F: Fact<K, V>> Part<K, V, S, J,
         ensures fact { IfOk result.0 (λ there. IfSome there (F.holds key)) }
     {
         match self.copy_at(number, start, me, &key) {
-            Ok(None) => answered(self.put(number, start, me, own, key, value, |_| ())),
+            Ok(None) => answered(self.put(number, start, me, own, key, value, ignore)),
             found => (
                 found,
                 Some(Held {
@@ -335,6 +335,9 @@ pub(crate) fn copied<K, V: Exact>(found: Option<(&K, &V)>) -> Result<Option<V>, 
         None => Ok(None),
     }
 }
+
+// Takes no notice of the pair that it is lent.
+pub(crate) fn ignore<K, V>(_former: Option<(&K, &V)>) {}
 
 // What `put_if_absent` answers where `put` answers this.
 pub(crate) fn answered<V, X: Drop>(
