@@ -1,4 +1,5 @@
 pub mod Settings
+pub mod Errors
 pub mod Keys
 pub mod Asked
 pub mod Computes

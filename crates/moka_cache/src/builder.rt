@@ -14,7 +14,7 @@ use std::time::Duration;
 
 /// What a cache is built by. No setter takes memory, and of each the last call counts.
 #[derive(Drop)]
-pub struct CacheBuilder<K, V, E, L = NoListener> {
+pub struct CacheBuilder<K, V, E = (), L = NoListener> {
     pub(crate) name: Option<String>,
     pub(crate) max_capacity: Option<u64>,
     pub(crate) initial_capacity: Option<usize>,

@@ -26,9 +26,10 @@ pub(crate) struct Shared<K: Eq + Hash, V, E, L, S> {
 pub type FixedSeed = BuildHasherDefault<FoldHasher>;
 
 /// A cache, which any number of tasks on any threads share by its clones. `E` is the type of errors
-/// of its loads, `L` of its listener, and `S` of what makes its hashers, which hash nothing yet.
+/// of its loads that may fail, `()` where it has none; `L` is that of its listener, and `S` of what
+/// makes its hashers, which hash nothing yet.
 #[derive(Drop)]
-pub struct Cache<K: Eq + Hash, V, E, L = NoListener, S = FixedSeed> {
+pub struct Cache<K: Eq + Hash, V, E = (), L = NoListener, S = FixedSeed> {
     pub(crate) shared: Arc<Shared<K, V, E, L, S>, Global>,
 }
 

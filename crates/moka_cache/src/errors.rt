@@ -1,20 +1,52 @@
 //! Why a call of the cache answers no result.
+ghost use Rattle.std.specs.Prelude.{◌≡◌};
+ghost use Rattle.std.specs.IoError.{error_kind};
+ghost use Rattle.std.specs.declared.io.ErrorKind.TheVariants as Kind;
+ghost use Rattle.moka_cache.specs.Errors.{kind_of};
+
+use std::alloc::AllocError;
+use std::{error, fmt, io};
+use thiserror::Error;
 
 /// What a poll answers in place of its result.
-#[derive(Clone, Copy, PartialEq, Eq, Debug)]
+#[derive(Clone, Copy, PartialEq, Eq, Debug, Error)]
 pub enum PollError {
     /// The call needs a number, and the greatest was given out before. Each later poll of the state
     /// answers so again.
+    #[error("no call number is left")]
     CallsSpent,
     /// Memory was wanting. What was done stands, and the state can be polled again. It would be
     /// answered too where the cache did not allow what the call does next, or who is asked had no
     /// answer to give: no run is known that comes to that.
+    #[error("out of memory")]
     Memory,
 }
 
+/// `Memory` becomes what an `AllocError` becomes, and `CallsSpent` an error of the kind `Other`.
+impl From<PollError> for io::Error {
+    ghost from_gives = { λ error told. error_kind told ≡ kind_of error };
+
+    fn from(error: PollError) -> io::Error {
+        match error {
+            PollError::CallsSpent => io::Error::other("no call number is left"),
+            PollError::Memory => io::Error::from(AllocError),
+        }
+    }
+}
+
 /// Why a load answers no value: the owners that it waited for were dropped 200 times.
-#[derive(Clone, Copy, PartialEq, Eq, Debug)]
+#[derive(Clone, Copy, PartialEq, Eq, Debug, Error)]
+#[error("200 owners of the load were dropped")]
 pub struct RetriesExhausted;
+
+/// It becomes an error of the kind `Other`.
+impl From<RetriesExhausted> for io::Error {
+    ghost from_gives = { λ _ told. error_kind told ≡ Kind.Other };
+
+    fn from(_error: RetriesExhausted) -> io::Error {
+        io::Error::other("200 owners of the load were dropped")
+    }
+}
 
 /// Why a load that may fail answers no value.
 #[derive(Clone, PartialEq, Debug, Drop)]
@@ -25,3 +57,15 @@ pub enum LoadError<E> {
     /// The owners that it waited for were dropped 200 times.
     RetriesExhausted,
 }
+
+/// Writes the initializer's error as that writes itself, and else as `RetriesExhausted`.
+impl<E: fmt::Display> fmt::Display for LoadError<E> {
+    fn fmt<W: fmt::Write>(&self, f: &mut fmt::Formatter<W>) -> fmt::Result {
+        match self {
+            LoadError::Init(error) => error.fmt(f),
+            LoadError::RetriesExhausted => RetriesExhausted.fmt(f),
+        }
+    }
+}
+
+impl<E: fmt::Debug + fmt::Display + Drop> error::Error for LoadError<E> {}

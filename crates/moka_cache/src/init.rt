@@ -3,6 +3,7 @@ ghost use Rattle.std.specs.Prelude.{⊤};
 ghost use Rattle.futures.specs.Poll.{IfReady, OnPending};
 ghost use Rattle.futures.specs.Task.{IsArmed, Keeps};
 
+use futures::Future;
 use futures::task::{Context, Poll};
 
 /// The initializer of a load. The task that polls the load's state polls it, without the lock,
@@ -28,4 +29,15 @@ pub trait Init<O>: Drop {
         ensures pending { OnPending result (pends self.old self.new) }
         ensures armed { OnPending result (IsArmed cx.new) }
         ensures kept { Keeps cx.old cx.new };
+}
+
+/// Any future is an initializer, which gives what it gives.
+impl<F: Future> Init<F::Output> for F {
+    ghost can_poll = { F.can_poll };
+
+    ghost gives = { F.gives };
+
+    fn poll(&mut self, cx: &mut Context<'_>) -> Poll<F::Output> {
+        Future::poll(self, cx)
+    }
 }

@@ -4,15 +4,10 @@ ghost use Rattle.futures.specs.Poll.{IfReady, OnPending};
 ghost use Rattle.futures.specs.Task.{IsArmed, Keeps};
 
 use crate::errors::PollError;
+use crate::moments::Moments;
 use futures::Future;
 use futures::task::{Context, Poll};
 use std::sync::Wait;
-
-/// A clock: it gives the moment of each poll, in nanoseconds.
-pub trait Moments {
-    /// Gives a moment, in nanoseconds.
-    fn moment(&mut self) -> u64;
-}
 
 /// A call of a cache as a state that is polled with this runtime. It has no `Drop`: one that has
 /// answered is finished, and any other is cancelled.

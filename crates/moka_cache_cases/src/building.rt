@@ -3,7 +3,7 @@
 use moka_cache::{BuildError, Cache, CacheBuilder, NoListener};
 use moka_cache_runs::asks::Asked::Never;
 use moka_cache_runs::asks::{NOBODY, Told};
-use moka_cache_runs::at::Numbers;
+use moka_cache_runs::caches::Numbers;
 use moka_cache_runs::calls::Call::{Lent, Own};
 use moka_cache_runs::calls::Kind::OfKey;
 use moka_cache_runs::calls::OfKey::{Get, Insert};

@@ -2,7 +2,7 @@
 
 use moka_cache::CacheBuilder;
 use moka_cache_runs::asks::Asks;
-use moka_cache_runs::at::{At, Numbers};
+use moka_cache_runs::caches::Numbers;
 use moka_cache_runs::inits::After;
 use std::alloc::AllocGlobal;
 use std::io;
@@ -16,11 +16,11 @@ const LATE: u64 = 17;
 
 /// Takes key 1 out, and stores as many others as the log has room for, so that this is applied.
 fn take_out<R: Wait + RandomSource + AllocGlobal>(rt: &R, cache: &Numbers) -> io::Result<bool> {
-    let removed = cache.remove(&1).block_on(rt, At(LATE))?;
+    let removed = cache.remove(&1).block_on(rt, LATE)?;
     for key in 2..500 {
-        let _ = cache.insert(key, 0).block_on(rt, At(LATE))?;
+        cache.insert(key, 0).block_on(rt, LATE)?;
     }
-    Ok(removed == Ok(Some(5)))
+    Ok(removed == Some(5))
 }
 
 /// Stores 5 under key 1 at 0, and looks at it at 8.
@@ -28,9 +28,9 @@ fn store_and_look<R: Wait + RandomSource + AllocGlobal>(
     rt: &R,
     cache: &Numbers,
 ) -> io::Result<bool> {
-    let stored = cache.insert(1, 5).block_on(rt, At(0))?;
-    let seen = cache.get(&1).block_on(rt, At(8))?;
-    Ok(stored == Ok(()) && seen == Ok(Some(5)))
+    cache.insert(1, 5).block_on(rt, 0)?;
+    let seen = cache.get(&1).block_on(rt, 8)?;
+    Ok(seen == Some(5))
 }
 
 /// Loads key 1 at 17, and takes it out while its replace test is asked.
@@ -41,8 +41,8 @@ fn load_beside<R: Wait + RandomSource + AllocGlobal>(rt: &R, cache: &Numbers) ->
         After::polls(0, 9, asks),
         move |_value: &u32| !matches!(take_out(rt, cache), Ok(true)),
     );
-    let loaded = load.block_on(rt, At(LATE))?;
-    Ok(loaded == Ok(Ok(5)) && asks.polls() == 0)
+    let loaded = load.block_on(rt, LATE)?;
+    Ok(loaded == Ok(5) && asks.polls() == 0)
 }
 
 #[test]

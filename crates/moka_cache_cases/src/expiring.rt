@@ -3,7 +3,7 @@
 use moka_cache::CacheBuilder;
 use moka_cache_runs::asks::Asked::{Never, Starts, Tests};
 use moka_cache_runs::asks::{NOBODY, Told};
-use moka_cache_runs::at::Numbers;
+use moka_cache_runs::caches::Numbers;
 use moka_cache_runs::calls::Call::{self, Lent, Own};
 use moka_cache_runs::calls::Compute::{ComputeWith, UpsertWith};
 use moka_cache_runs::calls::Gives;

@@ -1,7 +1,6 @@
 //! What was inserted, and what is found.
 
 use moka_cache::{Cache, Listener};
-use moka_cache_runs::at::At;
 use std::hash::Hash;
 use std::test::Fail;
 
@@ -22,14 +21,13 @@ where
 
 #[test]
 fn a_later_insert_replaces(rt: HostRuntime) -> Result<(), Fail> {
-    let cache: Cache<u32, u32, u32> = Cache::new(rt.alloc(), 100)?;
+    let cache: Cache<u32, u32> = Cache::new(rt.alloc(), 100)?;
     let shared = cache.clone()?;
     crosses_threads(&shared);
     for value in 0..1000 {
-        let inserted = cache.insert(7, value).block_on(&rt, At(3))?;
-        assert_eq!(rt; inserted, Ok(()));
-        let found = shared.get(&7).block_on(&rt, At(2))?;
-        assert_eq!(rt; found, Ok(Some(value)));
+        cache.insert(7, value).block_on(&rt, 3)?;
+        let found = shared.get(&7).block_on(&rt, 2)?;
+        assert_eq!(rt; found, Some(value));
     }
     Ok(())
 }

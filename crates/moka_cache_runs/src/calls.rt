@@ -1,7 +1,7 @@
 //! Calls of caches of numbers, of each kind.
 
 use crate::asks::Asks;
-use crate::at::Heard;
+use crate::caches::Heard;
 use crate::inits::{Act, After, Counts, Fails, Tells};
 use crate::numbers::numbers;
 use crate::replies::Reply;

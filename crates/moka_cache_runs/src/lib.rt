@@ -3,7 +3,7 @@
 #![tactic(auto)]
 
 pub mod asks;
-pub mod at;
+pub mod caches;
 pub mod calls;
 pub mod inits;
 pub mod numbers;

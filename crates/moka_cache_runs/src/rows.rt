@@ -1,7 +1,7 @@
 //! Worked cases as rows: what is done with a cache, and what it tells.
 
 use crate::asks::{Asks, Told};
-use crate::at::{Heard, Numbers};
+use crate::caches::{Heard, Numbers};
 use crate::calls::{Call, Caller, Group, Kind};
 use crate::replies::Reply;
 use crate::tasks::{Alone, First, Once, Unpolled};

@@ -5,8 +5,7 @@
 ghost use Rattle.moka_cache.specs.Settings.{rules_of};
 ghost use Rattle.moka_cache_runs.specs.Runs.{CanRun};
 
-use crate::at::At;
-use moka_cache::{Asked, Begin, CacheCall, Listener, PollError};
+use moka_cache::{Asked, Begin, CacheCall, Listener};
 use moka_values::Exact;
 use std::alloc::AllocGlobal;
 use std::hash::Hash;
@@ -18,7 +17,7 @@ use std::sync::Wait;
 pub fn run<R, A, K, V, E, Q, L, S>(
     rt: &R,
     call: CacheCall<'_, A, K, V, E, Q, L, S>,
-) -> io::Result<Result<A::Output, PollError>>
+) -> io::Result<A::Output>
 where
     R: Wait + RandomSource + AllocGlobal,
     A: Begin<K, V, E>,
@@ -31,5 +30,5 @@ where
     requires can { CanRun K.eq A.start A.output Q.can_poll Q.gives (rules_of call.cache.now)
         call.stage call.asked }
 {
-    call.block_on(rt, At(0))
+    call.block_on(rt, 0)
 }

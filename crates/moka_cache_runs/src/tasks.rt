@@ -5,7 +5,7 @@
 ghost use Rattle.std.specs.Prelude.{⊤};
 
 use crate::asks::Asks;
-use crate::at::{At, Heard};
+use crate::caches::Heard;
 use crate::calls::{Call, Caller, Group};
 use crate::inits::{DropsAfter, Sets};
 use crate::replies::{Replies, Reply, reply_of};
@@ -35,7 +35,7 @@ pub struct Alone(pub u64);
 
 impl<R: Wait + RandomSource + AllocGlobal> Task<R> for Alone {
     fn run<S: State<R, Output: Replies>>(self, rt: &R, call: S) -> io::Result<(Reply, Reply)> {
-        let answer = block_on(rt, Polled::new(rt, call, At(self.0)))?;
+        let answer = block_on(rt, Polled::new(rt, call, self.0))?;
         Ok((reply_of(Some(answer)), Reply::Dropped))
     }
 }
@@ -46,7 +46,7 @@ pub struct Setting<'a>(pub &'a AtomicBool);
 
 impl<R: Wait + RandomSource + AllocGlobal> Task<R> for Setting<'_> {
     fn run<S: State<R, Output: Replies>>(self, rt: &R, call: S) -> io::Result<(Reply, Reply)> {
-        let future = Polled::new(rt, call, At(0));
+        let future = Polled::new(rt, call, 0);
         let flag = self.0;
         let answer = block_on(rt, Sets { future, flag })?;
         Ok((reply_of(Some(answer)), Reply::Dropped))
@@ -59,7 +59,7 @@ pub struct Once;
 
 impl<R: Wait + RandomSource + AllocGlobal> Task<R> for Once {
     fn run<S: State<R, Output: Replies>>(self, rt: &R, call: S) -> io::Result<(Reply, Reply)> {
-        let answer = Polled::new(rt, call, At(0)).now_or_never(rt)?;
+        let answer = Polled::new(rt, call, 0).now_or_never(rt)?;
         Ok((reply_of(answer), Reply::Dropped))
     }
 }
@@ -74,7 +74,7 @@ pub enum Unpolled {
 impl<R: Wait + RandomSource + AllocGlobal> Task<R> for Unpolled {
     fn run<S: State<R, Output: Replies>>(self, rt: &R, call: S) -> io::Result<(Reply, Reply)> {
         match self {
-            Unpolled::Future => drop(Polled::new(rt, call, At(0))),
+            Unpolled::Future => drop(Polled::new(rt, call, 0)),
             Unpolled::State => call.cancel(rt),
         }
         Ok((Reply::Dropped, Reply::Dropped))
@@ -126,9 +126,9 @@ impl<R: Wait + RandomSource + AllocGlobal, F: State<R, Output: Replies>> Task<R>
 
     fn run<S: State<R, Output: Replies>>(self, rt: &R, call: S) -> io::Result<(Reply, Reply)> {
         let Second { first, polls, flag } = self;
-        let future = Some(Polled::new(rt, first, At(0)));
+        let future = Some(Polled::new(rt, first, 0));
         let first = DropsAfter { polls, future };
-        let future = Polled::new(rt, call, At(0));
+        let future = Polled::new(rt, call, 0);
         let second = Sets { future, flag };
         let (first, second) = block_on(rt, join(first, second))?;
         Ok((reply_of(first), reply_of(Some(second))))

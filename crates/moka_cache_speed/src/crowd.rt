@@ -2,7 +2,6 @@
 ghost use Rattle.futures.specs.Task.{Keeps};
 
 use crate::calls::Begins;
-use crate::runs::Still;
 use futures::Future;
 use futures::executor::block_on;
 use futures::task::{Context, Poll};
@@ -14,7 +13,7 @@ use std::random::RandomSource;
 use std::sync::Wait;
 
 /// Calls that were polled once.
-type UnderWay<'a, R, S> = Vec<Polled<'a, R, S, Still>>;
+type UnderWay<'a, R, S> = Vec<Polled<'a, R, S, u64>>;
 
 /// Makes so many calls that come from there, polls each once, and cancels them. Prints how many
 /// there are while they are under way, and once they are cancelled.
@@ -73,11 +72,11 @@ fn polled_once<'a, R: Wait, S: State<R, Output: Drop>>(
     rt: &'a R,
     state: S,
     cx: &mut Context<'_>,
-) -> Polled<'a, R, S, Still>
+) -> Polled<'a, R, S, u64>
     requires { S.can_poll state }
     ensures { Keeps cx.old cx.new }
 {
-    let mut call = Polled::new(rt, state, Still);
+    let mut call = Polled::new(rt, state, 0);
     drop(call.poll(cx));
     call
 }

@@ -5,21 +5,11 @@ use crate::ways::Way;
 use futures::FutureExt;
 use futures::executor::block_on;
 use futures::future::join;
-use moka_cache::{Moments, Polled, State};
+use moka_cache::{Polled, State};
 use std::alloc::AllocGlobal;
 use std::io;
 use std::random::RandomSource;
 use std::sync::Wait;
-
-/// Each poll is at moment 0.
-#[derive(Drop)]
-pub(crate) struct Still;
-
-impl Moments for Still {
-    fn moment(&mut self) -> u64 {
-        0
-    }
-}
 
 /// The rounds from one up to another, without that.
 #[derive(Clone, Copy)]
@@ -96,7 +86,7 @@ fn finish<R: Wait + RandomSource + AllocGlobal, S: State<R, Output: Drop>>(
 ) -> io::Result<bool>
     requires { S.can_poll call }
 {
-    Ok(block_on(rt, Polled::new(rt, call, Still))?.is_ok())
+    Ok(block_on(rt, Polled::new(rt, call, 0))?.is_ok())
 }
 
 /// Polls the call once, and drops it where it waits. It is over then.
@@ -106,7 +96,7 @@ fn poll_once<R: Wait + RandomSource + AllocGlobal, S: State<R, Output: Drop>>(
 ) -> io::Result<bool>
     requires { S.can_poll call }
 {
-    drop(Polled::new(rt, call, Still).now_or_never(rt)?);
+    drop(Polled::new(rt, call, 0).now_or_never(rt)?);
     Ok(true)
 }
 
@@ -118,8 +108,8 @@ where
     requires one { S.can_poll one }
     requires other { S.can_poll other }
 {
-    let one = Polled::new(rt, one, Still);
-    let other = Polled::new(rt, other, Still);
+    let one = Polled::new(rt, one, 0);
+    let other = Polled::new(rt, other, 0);
     let (one, other) = block_on(rt, join(one, other))?;
     Ok(one.is_ok() && other.is_ok())
 }

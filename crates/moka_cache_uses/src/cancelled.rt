@@ -3,7 +3,6 @@ ghost use Rattle.std.specs.Prelude.{IfSome};
 ghost use Rattle.futures.specs.Poll.{OnPending};
 ghost use Rattle.futures.specs.Task.{IsArmed, Keeps};
 
-use crate::answers::At;
 use crate::sources::After;
 use futures::Future;
 use futures::executor::block_on;
@@ -95,7 +94,7 @@ where
         call: Some(cancelled),
         is_polled: false,
     };
-    block_on(rt, join(once, Polled::new(rt, other, At(0))))
+    block_on(rt, join(once, Polled::new(rt, other, 0)))
 }
 
 /// What a load answers.
@@ -105,7 +104,7 @@ type Loaded = Result<Result<u32, RetriesExhausted>, PollError>;
 /// becomes the owner, and its source is asked.
 fn serve_waiter<'a, R: Wait + RandomSource + AllocGlobal>(
     rt: &'a R,
-    cache: &'a Cache<u32, u32, u32>,
+    cache: &'a Cache<u32, u32>,
 ) -> io::Result<(bool, Loaded)> {
     let source = After { polls: 9, gives: 5 };
     let owner = cache.get_with(1, source);

@@ -1,7 +1,7 @@
 //! Counts by number.
 ghost use Rattle.moka_cache.specs.Asked.{IsPut};
 
-use crate::answers::{At, answered, both};
+use crate::answers::both;
 use futures::task::{Context, Poll};
 use moka_cache::{Cache, Compute};
 use moka_hist::{Entry, Op};
@@ -11,7 +11,7 @@ use std::random::RandomSource;
 use std::sync::Wait;
 
 /// Counts by their numbers.
-type Counts = Cache<u32, u64, u32>;
+type Counts = Cache<u32, u64>;
 
 /// Counts one more than was found.
 #[derive(Drop)]
@@ -19,7 +19,7 @@ struct OneMore {
     next: u64,
 }
 
-impl Compute<u32, u64, u32> for OneMore {
+impl Compute<u32, u64, ()> for OneMore {
     ghost gives = { λ one_more told. IsPut told };
 
     fn start(&mut self, found: Option<&Entry<u32, u64>>) {
@@ -29,7 +29,7 @@ impl Compute<u32, u64, u32> for OneMore {
         };
     }
 
-    fn poll(&mut self, _cx: &mut Context<'_>) -> Poll<Result<Op<u64>, u32>> {
+    fn poll(&mut self, _cx: &mut Context<'_>) -> Poll<Result<Op<u64>, ()>> {
         Poll::Ready(Ok(Op::Put(self.next)))
     }
 }
@@ -40,7 +40,7 @@ fn count<'a, R: Wait + RandomSource + AllocGlobal>(
     counts: &'a Counts,
 ) -> io::Result<u64> {
     let upsert = counts.entry(1).and_upsert_with(OneMore { next: 1 });
-    Ok(answered(upsert.block_on(rt, At(0)))?.value)
+    Ok(upsert.block_on(rt, 0)?.value)
 }
 
 /// Counts two more of number 1, at once: of a number's computes one goes at a time, so none is lost.

@@ -11,7 +11,7 @@ use std::sync::Wait;
 /// Two callers miss key 1 at once: the first one's source is asked, and both get what it gives.
 fn load_twice<'a, R: Wait + RandomSource + AllocGlobal>(
     rt: &'a R,
-    cache: &'a Cache<u32, u32, u32>,
+    cache: &'a Cache<u32, u32>,
 ) -> io::Result<Both<Result<u32, RetriesExhausted>>> {
     let first = cache.get_with(1, After { polls: 2, gives: 9 });
     let second = cache.get_with(1, After { polls: 2, gives: 8 });

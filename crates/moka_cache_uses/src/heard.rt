@@ -1,6 +1,5 @@
 //! A listener that counts what leaves.
 
-use crate::answers::{At, answered};
 use futures::task::{Context, Poll};
 use moka_cache::{Cache, CacheBuilder, Listener, ListenerEnd};
 use moka_hist::Cause;
@@ -27,7 +26,7 @@ impl Listener<u32, u32> for CountsLeft {
 }
 
 /// A cache that a listener hears.
-type Heard<L> = Cache<u32, u32, u32, L>;
+type Heard<L> = Cache<u32, u32, (), L>;
 
 /// Makes an empty cache that this listener hears. No time is set, so memory alone may be wanting.
 fn heard_by<L: Listener<u32, u32>>(alloc: Global, listener: L) -> Result<Heard<L>, AllocError> {
@@ -46,9 +45,9 @@ fn store_and_remove<'a, R: Wait + RandomSource + AllocGlobal, L: Listener<u32, u
     cache: &'a Heard<L>,
 ) -> io::Result<Option<u32>> {
     for value in [5, 6, 7] {
-        answered(cache.insert(1, value).block_on(rt, At(0)))?;
+        cache.insert(1, value).block_on(rt, 0)?;
     }
-    answered(cache.remove(&1).block_on(rt, At(0)))
+    cache.remove(&1).block_on(rt, 0)
 }
 
 /// Counts what leaves: two values that others replace, and one that is taken out.

@@ -13,15 +13,11 @@ mod sources;
 
 use std::alloc::{AllocGlobal, Global};
 use std::io;
-use std::process::ExitCode;
 use std::random::RandomSource;
 use std::sync::Wait;
 
-fn main(rt: HostRuntime) -> ExitCode {
-    match show_all(&rt, rt.alloc()) {
-        Ok(()) => ExitCode::SUCCESS,
-        Err(_) => ExitCode::FAILURE,
-    }
+fn main(rt: HostRuntime) -> io::Result<()> {
+    show_all(&rt, rt.alloc())
 }
 
 /// Runs each use in a cache of its own, and prints what it answers.

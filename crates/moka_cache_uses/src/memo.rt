@@ -2,9 +2,8 @@
 ghost use Rattle.std.specs.Prelude.{◌≡◌, ◌*◌, IfOk};
 ghost use Rattle.std.proofs.Common.{rules};
 
-use crate::answers::{At, answered};
-use futures::task::{Context, Poll};
-use moka_cache::{Cache, Init};
+use futures::future::lazy;
+use moka_cache::Cache;
 use moka_values::Exact;
 use std::alloc::{AllocGlobal, Global};
 use std::io;
@@ -36,22 +35,8 @@ impl Square {
     }
 }
 
-/// Squares a number, and counts that.
-#[derive(Drop)]
-struct Squares<'a> {
-    root: u32,
-    loads: &'a AtomicU64,
-}
-
-impl Init<Square> for Squares<'_> {
-    fn poll(&mut self, _cx: &mut Context<'_>) -> Poll<Square> {
-        self.loads.fetch_add(1, Ordering::SeqCst);
-        Poll::Ready(Square::of(self.root))
-    }
-}
-
 /// Squares by their roots.
-type Memo = Cache<u32, Square, u32>;
+type Memo = Cache<u32, Square>;
 
 /// The square of a number, taken from the table where it is there. Whatever the table gives, it is
 /// the square: each of its values says so, and of which number.
@@ -63,11 +48,12 @@ fn squared<'a, R: Wait + RandomSource + AllocGlobal>(
 ) -> io::Result<u64>
     ensures { IfOk result (λ area. area ≡ root * root) }
 {
-    let load = memo.get_with(root, Squares { root, loads });
-    match answered(load.block_on(rt, At(0)))? {
-        Ok(square) => Ok(area_of(square, root)),
-        Err(_) => Ok(Square::of(root).area),
-    }
+    let square = lazy(move |_| {
+        loads.fetch_add(1, Ordering::SeqCst);
+        Square::of(root)
+    });
+    let found = memo.get_with(root, square).block_on(rt, 0)??;
+    Ok(area_of(found, root))
 }
 
 /// The area that was found, where it is that of the root.

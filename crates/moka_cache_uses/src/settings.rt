@@ -1,7 +1,8 @@
 //! Settings that are loaded from a source which may fail.
 
-use crate::answers::{At, Both, answered, both};
+use crate::answers::{Both, both};
 use crate::sources::After;
+use futures::future::ok;
 use moka_cache::{Cache, LoadError};
 use std::alloc::{AllocGlobal, Global};
 use std::io;
@@ -37,11 +38,7 @@ fn ask_anew<'a, R: Wait + RandomSource + AllocGlobal>(
     rt: &'a R,
     settings: &'a Settings,
 ) -> io::Result<Setting> {
-    let source = After {
-        polls: 0,
-        gives: Ok(7),
-    };
-    answered(settings.try_get_with(1, source).block_on(rt, At(0)))
+    settings.try_get_with(1, ok(7)).block_on(rt, 0)
 }
 
 /// Asks for a setting twice at once, and once more.

@@ -4,7 +4,7 @@ use crate::keeping::{Board, Opens};
 use futures::executor::block_on;
 use moka_cache::{Listener, Polled, State};
 use moka_cache_runs::asks::{Asks, Told};
-use moka_cache_runs::at::{At, Heard};
+use moka_cache_runs::caches::Heard;
 use moka_cache_runs::calls::Call::Own;
 use moka_cache_runs::calls::Kind::OfKey;
 use moka_cache_runs::calls::OfKey::Insert;
@@ -22,7 +22,7 @@ struct Opening<'a>(&'a Board);
 
 impl<R: Wait + RandomSource + AllocGlobal> Task<R> for Opening<'_> {
     fn run<S: State<R, Output: Replies>>(self, rt: &R, call: S) -> io::Result<(Reply, Reply)> {
-        let future = Polled::new(rt, call, At(0));
+        let future = Polled::new(rt, call, 0);
         let board = self.0;
         let answer = block_on(rt, Opens { future, board })?;
         Ok((reply_of(Some(answer)), Reply::Dropped))

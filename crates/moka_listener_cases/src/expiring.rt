@@ -4,7 +4,7 @@ use crate::keeping::{Board, KeepListener, left};
 use moka_cache::{BuildError, CacheBuilder};
 use moka_cache_runs::asks::Asked::{Never, Starts};
 use moka_cache_runs::asks::{NOBODY, Told};
-use moka_cache_runs::at::Heard;
+use moka_cache_runs::caches::Heard;
 use moka_cache_runs::calls::Call::{self, Own};
 use moka_cache_runs::calls::Compute::ComputeWith;
 use moka_cache_runs::calls::Gives;

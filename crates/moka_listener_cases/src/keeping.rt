@@ -3,7 +3,7 @@
 use futures::Future;
 use futures::task::{Context, Poll};
 use moka_cache::{BuildError, CacheBuilder, Listener, ListenerEnd};
-use moka_cache_runs::at::Heard;
+use moka_cache_runs::caches::Heard;
 use moka_hist::Cause;
 use std::alloc::{AllocError, Global};
 use std::cell::Cell;

@@ -7,7 +7,7 @@ use futures::future::join;
 use moka_cache::{PollError, Polled, State};
 use moka_cache_runs::asks::Asked::Starts;
 use moka_cache_runs::asks::Told;
-use moka_cache_runs::at::{At, Heard};
+use moka_cache_runs::caches::Heard;
 use moka_cache_runs::calls::Call::{self, Own};
 use moka_cache_runs::calls::Compute::ComputeWith;
 use moka_cache_runs::calls::Gives;
@@ -58,9 +58,9 @@ where
     requires one { S.can_poll one }
     requires other { S.can_poll other }
 {
-    let first = Polled::new(rt, first, At(0));
-    let one = Polled::new(rt, one, At(0));
-    let future = join(one, Polled::new(rt, other, At(0)));
+    let first = Polled::new(rt, first, 0);
+    let one = Polled::new(rt, one, 0);
+    let future = join(one, Polled::new(rt, other, 0));
     block_on(rt, join(first, Opens { future, board }))
 }
 

@@ -10,7 +10,7 @@ use moka_cache::{
     State,
 };
 use moka_cache_runs::asks::Asks;
-use moka_cache_runs::at::{At, Heard};
+use moka_cache_runs::caches::Heard;
 use moka_cache_runs::calls::Call::{Lent, Own};
 use moka_cache_runs::calls::Caller;
 use moka_cache_runs::calls::Kind::OfKey;
@@ -103,10 +103,10 @@ where
 {
     let dropped = DropsAfter {
         polls: 2,
-        future: Some(Polled::new(rt, dropped, At(0))),
+        future: Some(Polled::new(rt, dropped, 0)),
     };
-    let other = Polled::new(rt, other, At(0));
-    let third = Polled::new(rt, third, At(0));
+    let other = Polled::new(rt, other, 0);
+    let third = Polled::new(rt, third, 0);
     let (_, both) = block_on(rt, join(dropped, join(other, third)))?;
     Ok(both)
 }

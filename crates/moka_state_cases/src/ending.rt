@@ -9,7 +9,7 @@ use futures::executor::block_on;
 use futures::task::{Context, Poll};
 use moka_cache::{Cache, PollError, State};
 use moka_cache_runs::asks::Asks;
-use moka_cache_runs::at::Numbers;
+use moka_cache_runs::caches::Numbers;
 use moka_cache_runs::calls::Call::Own;
 use moka_cache_runs::calls::Caller;
 use moka_cache_runs::calls::Kind::OfKey;

@@ -8,7 +8,7 @@ use futures::executor::block_on;
 use futures::task::{Context, Poll};
 use moka_cache::{ByCompute, ByInit, Cache, PollError, RetriesExhausted, State, ToCompute, ToLoad};
 use moka_cache_runs::asks::Asks;
-use moka_cache_runs::at::Numbers;
+use moka_cache_runs::caches::Numbers;
 use moka_cache_runs::inits::{Act, After, Tells};
 use moka_cache_runs::numbers::{NumberCall, numbers};
 use moka_hist::{CompResult, Entry};

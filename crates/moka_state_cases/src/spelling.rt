@@ -6,7 +6,7 @@ ghost use Rattle.std.specs.Cmp.Rules.{comparing, hashing};
 ghost use Rattle.std.proofs.Common.{rules};
 
 use futures::task::{Context, Poll};
-use moka_cache::{Cache, Compute, PollError};
+use moka_cache::{Cache, Compute};
 use moka_cache_runs::asks::Asks;
 use moka_cache_runs::inits::{Act, After, op_of};
 use moka_cache_runs::run::run;
@@ -115,9 +115,9 @@ fn or_insert<'a, R: Wait + RandomSource + AllocGlobal>(
     cache: &'a Letters,
     key: Letter,
     value: u32,
-) -> io::Result<Option<(char, u32)>> {
-    let stored: Result<Entry<Letter, u32>, PollError> = run(rt, cache.entry(key).or_insert(value))?;
-    Ok(stored.ok().map(|entry| of_entry(&entry)))
+) -> io::Result<(char, u32)> {
+    let stored: Entry<Letter, u32> = run(rt, cache.entry(key).or_insert(value))?;
+    Ok(of_entry(&stored))
 }
 
 // Loads the value where there is none, and tells of the entry.
@@ -128,8 +128,8 @@ fn or_load<'a, R: Wait + RandomSource + AllocGlobal>(
     init: After<'a>,
 ) -> io::Result<Option<(char, u32)>> {
     match run(rt, cache.entry_by_ref(key).or_insert_with(init))? {
-        Ok(Ok(entry)) => Ok(Some(of_entry(&entry))),
-        _ => Ok(None),
+        Ok(entry) => Ok(Some(of_entry(&entry))),
+        Err(_) => Ok(None),
     }
 }
 
@@ -140,11 +140,9 @@ fn does<'a, R: Wait + RandomSource + AllocGlobal>(
     key: Letter,
     act: Act,
     found: &'a Cell<char>,
-) -> io::Result<Option<(char, (char, u32))>> {
-    match run(rt, cache.entry(key).and_compute_with(Notes { act, found }))? {
-        Ok(done) => Ok(Some((found.get(), of_done(&done)))),
-        Err(_) => Ok(None),
-    }
+) -> io::Result<(char, (char, u32))> {
+    let done = run(rt, cache.entry(key).and_compute_with(Notes { act, found }))?;
+    Ok((found.get(), of_done(&done)))
 }
 
 #[test]
@@ -153,7 +151,7 @@ fn an_entry_has_the_selectors_key(rt: HostRuntime) -> Result<(), Fail> {
     let asks = Asks::new();
     for (key, spelled) in [(SMALL, 'a'), (CAPITAL, 'A')] {
         let init = After::polls(1, 6, &asks);
-        assert_eq!(rt; or_insert(&rt, &cache, key, 5)?, Some((spelled, 5)));
+        assert_eq!(rt; or_insert(&rt, &cache, key, 5)?, (spelled, 5));
         assert_eq!(rt; or_load(&rt, &cache, &key, init)?, Some((spelled, 5)));
     }
     Ok(())
@@ -172,7 +170,7 @@ fn a_compute_is_told_the_stored_key(rt: HostRuntime) -> Result<(), Fail> {
     ];
     for (key, act, want) in cases {
         let told = does(&rt, &cache, key, act, &found)?;
-        assert_eq!(rt; told, Some(want));
+        assert_eq!(rt; told, want);
     }
     Ok(())
 }

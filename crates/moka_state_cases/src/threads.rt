@@ -2,7 +2,7 @@
 
 use moka_cache::Cache;
 use moka_cache_runs::asks::Asks;
-use moka_cache_runs::at::Numbers;
+use moka_cache_runs::caches::Numbers;
 use moka_cache_runs::calls::Call::{Lent, Own};
 use moka_cache_runs::calls::Caller;
 use moka_cache_runs::calls::Kind::OfKey;

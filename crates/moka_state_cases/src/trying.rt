@@ -2,7 +2,7 @@
 
 use futures::task::{Context, Poll};
 use moka_cache::{Cache, Init, LoadError};
-use moka_cache_runs::at::Numbers;
+use moka_cache_runs::caches::Numbers;
 use moka_cache_runs::run::run;
 use std::alloc::{AllocError, AllocGlobal, Global};
 use std::random::RandomSource;
@@ -50,8 +50,8 @@ fn try_load<'a, R: Wait + RandomSource + AllocGlobal>(
         asked,
     };
     match run(rt, cache.try_get_with(key, init))? {
-        Ok(Ok(value)) if value == key.wrapping_mul(3) => Ok(Some(true)),
-        Ok(Err(LoadError::Init(error))) if error == key.wrapping_mul(3) => Ok(Some(false)),
+        Ok(value) if value == key.wrapping_mul(3) => Ok(Some(true)),
+        Err(LoadError::Init(error)) if error == key.wrapping_mul(3) => Ok(Some(false)),
         _ => Ok(None),
     }
 }
