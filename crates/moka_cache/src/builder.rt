@@ -8,6 +8,7 @@ use moka_hist::{BuildError, Rules};
 use moka_kept::NoListener;
 use moka_values::Exact;
 use std::alloc::Global;
+use std::fmt;
 use std::hash::Hash;
 use std::marker::PhantomData;
 use std::time::Duration;
@@ -41,6 +42,20 @@ impl<K, V, E, L> Default for CacheBuilder<K, V, E, L> {
             listener: None,
             types: PhantomData,
         }
+    }
+}
+
+/// Writes what was set, and of the listener only whether there is one.
+impl<K, V, E, L> fmt::Debug for CacheBuilder<K, V, E, L> {
+    fn fmt<W: fmt::Write>(&self, f: &mut fmt::Formatter<W>) -> fmt::Result {
+        f.debug_struct("CacheBuilder")
+            .field("name", &self.name)
+            .field("max_capacity", &self.max_capacity)
+            .field("initial_capacity", &self.initial_capacity)
+            .field("time_to_live", &self.time_to_live)
+            .field("time_to_idle", &self.time_to_idle)
+            .field("has_listener", &self.listener.is_some())
+            .finish()
     }
 }
 

@@ -10,6 +10,7 @@ use moka_hist::Rules;
 use moka_kept::{Guarded, NoListener};
 use moka_values::Exact;
 use std::alloc::{AllocError, Global};
+use std::fmt;
 use std::hash::{BuildHasherDefault, FoldHasher, Hash};
 use std::sync::Arc;
 
@@ -145,6 +146,23 @@ where
         Policy {
             rules: shared.guarded.rules,
         }
+    }
+}
+
+/// Writes the name and the policy, and takes no lock for it.
+impl<K, V, E, L, S> fmt::Debug for Cache<K, V, E, L, S>
+where
+    K: Eq + Hash + Exact,
+    V: Exact,
+    E: Exact,
+    L: Drop,
+    S: Drop,
+{
+    fn fmt<W: fmt::Write>(&self, f: &mut fmt::Formatter<W>) -> fmt::Result {
+        f.debug_struct("Cache")
+            .field("name", &self.name())
+            .field("policy", &self.policy())
+            .finish()
     }
 }
 

@@ -20,6 +20,8 @@ mod failing;
 #[cfg(test)]
 mod finding;
 #[cfg(test)]
+mod giving;
+#[cfg(test)]
 mod invalidating;
 #[cfg(test)]
 mod loading;
@@ -29,3 +31,7 @@ mod naming;
 mod removing;
 #[cfg(test)]
 mod replacing;
+#[cfg(test)]
+mod telling;
+#[cfg(test)]
+mod timing;
