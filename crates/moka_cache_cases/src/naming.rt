@@ -40,9 +40,6 @@ fn a_built_cache_keeps_names(rt: HostRuntime) -> Result<(), Fail> {
     assert_eq!(rt; policy.time_to_idle(), None);
     let alice = ByteStr::from_static("Alice");
     insert(&rt, &cache, 'a', alice)?;
-    assert_eq!(rt;
-        get(&rt, &cache, 'a')?,
-        Some(ByteStr::from_static("Alice"))
-    );
+    assert_eq!(rt; get(&rt, &cache, 'a')?, Some(ByteStr::from_static("Alice")));
     Ok(())
 }

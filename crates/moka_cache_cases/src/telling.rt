@@ -81,8 +81,8 @@ fn a_call_without_a_number_is_an_io_error(rt: HostRuntime) -> Result<(), Fail> {
 
 #[test]
 fn a_cache_writes_its_name_and_its_policy(rt: HostRuntime) -> Result<(), Fail> {
-    let builder: CacheBuilder<u32, u32> =
-        CacheBuilder::new(9).name(format!(in rt.alloc(); "pages")?);
+    let name = format!(in rt.alloc(); "pages")?;
+    let builder: CacheBuilder<u32, u32> = CacheBuilder::new(9).name(name);
     let text = format!(in rt.alloc(); "{builder:?}")?;
     assert_eq!(rt;
         text.as_str(),
