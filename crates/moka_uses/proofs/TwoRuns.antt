@@ -76,9 +76,14 @@ module _ {K V : Type 0} (eq : K → K → Bool) (laws : IsEquivalence eq)
       let there : (started m begin).stands n ≡ Some (Begun begin) =
       ap (started m begin).stands next ∙ put_here m.stands (m.last + 1) (Some (Begun begin)) in
       let b = poll_law run.0 run.3.0 (started m begin) n (Begun begin) last a.1 there
-      (poll_any run.0 run.3.0 n last reached run.3.1) in
-      (call, last, refl, b.0, subst (λ v. IsSeenAs eq v (polled eq (started m begin) n (Begun begin)).1)
-      (sym run.3.3) b.1)
+      (poll_any run.0 run.3.0 n last reached run.3.1) in (
+        call,
+        last,
+        refl,
+        b.0,
+        subst (λ v. IsSeenAs eq v (polled eq (started m begin) n (Begun begin)).1)
+            (sym run.3.3) b.1,
+      )
   polls_as s t m begin n [] seen plain more next run = absurd run
   polls_as s t m begin n (call ∷ []) seen plain more next run = absurd run.3
   polls_as s t m begin n (call ∷ last ∷ r ∷ rest) seen plain more next run = absurd run.3.3
@@ -131,7 +136,7 @@ module _ {K V : Type 0} {same : PartialEq.Ghosts K} {hash : Hash.Ghosts K} where
       let stores : Run eq (IsLawful eq) (fresh K V ℕ (the_division K) no_rules log_size no_tests_handed) (storing key value) first a.final =
       subst (λ (es : List (Event K V ℕ)). Run eq (IsLawful eq) (fresh K V ℕ (the_division K) no_rules log_size no_tests_handed) es first a.final) these a.run in
       let looks : Run eq (IsLawful eq) a.final (looking key) (call ∷ last ∷ []) b.final = subst (λ (rs : List (Reply K V ℕ)). Run eq (IsLawful eq) a.final (looking key) rs b.final) two
-            (subst (λ (es : List (Event K V ℕ)). Run eq (IsLawful eq) a.final es second b.final) those b.run) in
+      (subst (λ (es : List (Event K V ℕ)). Run eq (IsLawful eq) a.final es second b.final) those b.run) in
       record {
         stored = first;
         mid = a.final;
