@@ -101,7 +101,7 @@ module _ {K V : Type 0} (eq : K → K → Bool) (laws : IsEquivalence eq)
       let b = polls_as mid final inserted (start.Get key) 2 (call ∷ last ∷ []) a.4 refl
       (not_last 1 (omega arith)) refl looks in
       ap found_in (second call last b.0 b.1 b.2 ∙ b.3) ∙
-      ap (λ x. option_map (λ kept. kept.0) (cond x (Some (value, 1)) None)) (laws.refl key)
+      ap (λ x. option_map {T = V × ℕ} (λ kept. kept.0) (cond x (Some (value, 1)) None)) (laws.refl key)
     where
       second : (c l d m : Reply K V ℕ) → c ∷ l ∷ [] ≡ d ∷ m ∷ [] → l ≡ m
       second c l d m e = cc
@@ -131,7 +131,7 @@ module _ {K V : Type 0} {same : PartialEq.Ghosts K} {hash : Hash.Ghosts K} where
         run = refl;
       } in
       let a = ran (fresh K V ℕ (the_division K) no_rules log_size no_tests_handed) begun reached in
-      let there = law (fresh K V ℕ (the_division K) no_rules log_size no_tests_handed) a.final stores first reached a.run in
+      let there = law (fresh K V ℕ (the_division K) no_rules log_size no_tests_handed) a.final events first reached a.run in
       let b = again a.final a.stands there in
       let stores : Run eq (IsLawful eq) (fresh K V ℕ (the_division K) no_rules log_size no_tests_handed) (storing key value) first a.final =
       subst (λ (es : List (Event K V ℕ)). Run eq (IsLawful eq) (fresh K V ℕ (the_division K) no_rules log_size no_tests_handed) es first a.final) these a.run in
