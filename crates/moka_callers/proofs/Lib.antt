@@ -12,3 +12,6 @@ pub mod Inserted
 pub mod Since
 pub mod Answering
 pub mod Fresh
+pub mod Keeping
+pub mod Told
+pub mod Missed

@@ -4,9 +4,11 @@ use Rattle.moka_callers.specs.Changing.{StepsChangeByWrites, TableChangesBySteps
 use Rattle.moka_callers.specs.Contents.{CommitsAreMade, RecordsAreOfCalls, RecordsStand}
 use Rattle.moka_callers.specs.Inserting.{FreshIsPut, InsertsPutIn, InsertsStand}
 use Rattle.moka_callers.specs.Living.{LivesByReplies, NumbersGoUp}
+use Rattle.moka_callers.specs.Missing.{EvictsKeptSeen, RemovesFoundNone}
 use Rattle.moka_callers.specs.Reading.{GetsAnswerStored, ReadsSeeWrites}
 use Rattle.moka_callers.specs.Refusing.{RefusedByCause}
 use Rattle.moka_callers.specs.Running.{RepliesAreSteps, RunSplits, RunsJoin}
+use Rattle.moka_callers.specs.Telling.{ToldWasTold}
 
 -- Every law of this crate: each field is the clause of the function of its name.
 pub record LawsForCallers (K V E : Type 0) (eq : K → K → Bool) : Type 0 where
@@ -31,3 +33,8 @@ pub record LawsForCallers (K V E : Type 0) (eq : K → K → Bool) : Type 0 wher
   -- what a get answers
   pub gets_answer_stored : GetsAnswerStored K V E eq
   pub reads_see_writes : ReadsSeeWrites K V E eq
+  -- what calls were told
+  pub told_was_told : ToldWasTold K V E eq
+  -- what a removal has seen that took nothing out
+  pub removes_found_none : RemovesFoundNone K V E eq
+  pub evicts_kept_seen : EvictsKeptSeen K V E eq

@@ -5,4 +5,6 @@ pub mod Changing
 pub mod Contents
 pub mod Inserting
 pub mod Reading
+pub mod Telling
+pub mod Missing
 pub mod Laws

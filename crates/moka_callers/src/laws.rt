@@ -11,6 +11,9 @@ pub fn laws_for_callers<K: Eq, V, E>()
     crate::runs_join::<K, V, E>();
     crate::replies_are_steps::<K, V, E>();
     crate::lives_by_replies::<K, V, E>();
+    crate::told_was_told::<K, V, E>();
+    crate::removes_found_none::<K, V, E>();
+    crate::evicts_kept_seen::<K, V, E>();
     crate::numbers_go_up::<K, V, E>();
     crate::steps_change_by_writes::<K, V, E>();
     crate::table_changes_by_steps::<K, V, E>();
