@@ -55,8 +55,9 @@ impl Tally {
     #[inline]
     pub fn count(&mut self, reply: &Reply<u32, u32, u32>)
         requires { self.old.events + 1 < 2 ^ 64 }
-        ensures { (replies : List (Reply ℕ ℕ ℕ)) → self.old ≡ tally replies
+        ensures counts { (replies : List (Reply ℕ ℕ ℕ)) → self.old ≡ tally replies
             → self.new ≡ tally (replies ++ reply.now ∷ []) }
+        ensures events { self.new.events ≡ self.old.events + 1 }
     {
         self.count_on(reply);
     }

@@ -1,5 +1,5 @@
 -- A workload goes on by a turn.
-use Rattle.std.proofs.Common.{◌≡◌, ◌≤◌, ℕ, ◌+◌, List, [], ◌∷◌, ◌++◌, ap, ◌∙◌, sym, arith, add-one}
+use Rattle.std.proofs.Common.{◌≡◌, ◌≤◌, ℕ, ◌+◌, List, [], ◌∷◌, ◌++◌, ap, ◌∙◌, refl, sym, arith, add-one}
 use Rattle.moka_hist.specs.declared.events.Event.{Event}
 use Rattle.rand_pcg.specs.Lcg.{Lcg}
 use Rattle.rand_pcg.specs.Pcg.{pcg64}
@@ -18,6 +18,11 @@ calls_in-append (x ∷ xs) ys =
 pub words_next : (seed n : ℕ) → after_words seed (n + 1) ≡ (pcg64 (after_words seed n)).1
 unfolding after_words
 words_next seed n = ap (after_words seed) (add-one n)
+
+-- no turn has events
+pub workload_none : (seed : ℕ) → workload 0 seed ≡ []
+unfolding workload
+workload_none seed = refl
 
 pub workload_next : (n seed : ℕ)
     → workload (n + 1) seed ≡ workload n seed ++ events_in (turn_after n seed (workload n seed))

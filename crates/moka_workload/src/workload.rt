@@ -1,6 +1,6 @@
 //! The workload, turn by turn.
 
-ghost use Rattle.std.specs.Prelude.{◌≡◌, ◌<◌, ◌++◌, ◌+◌, []};
+ghost use Rattle.std.specs.Prelude.{◌≡◌, ◌<◌, ◌++◌, ◌+◌};
 
 use crate::Turn;
 use rand_core::SeedableRng;
@@ -36,8 +36,7 @@ impl Workload {
 
     /// The workload of this seed, of which no turn was made. Equal seeds give equal workloads.
     pub fn new(seed: u64) -> Self
-        ensures made { result ≡ record { seed = seed; turns = 0 } }
-        ensures empty { workload 0 seed ≡ [] }
+        ensures { result ≡ record { seed = seed; turns = 0 } }
     {
         Workload {
             seed,

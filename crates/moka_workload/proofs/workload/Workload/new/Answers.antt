@@ -8,7 +8,3 @@ pub invariant_of-result : goal.invariant_of-result
 unfolding after_words workload
 invariant_of-result c =
     record { drawn = c.seed_from_u64.ensures; counted = refl; few = omega arith }
-
-pub returns-clause-empty : goal.returns-clause-empty
-unfolding workload
-returns-clause-empty c = refl
