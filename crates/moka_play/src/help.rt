@@ -4,14 +4,16 @@ const VERSION: &str = "moka 0.1.0 (Wudzghela)\n";
 
 const HELP: &str = "\
 usage: moka play < SCHEDULE > REPORT
+       moka make N SEED > SUMMARY
        moka behind < LINES > REPLIES
        moka memo < LINES > REPLIES
        moka gateway < LINES > REPLIES
        moka --help
        moka --version
 
-play runs a schedule on a cache of one thread, and writes a report of it. behind, memo and gateway
-are programs on such a cache: each reads lines, and writes what it replies to them.
+play runs a schedule on a cache of one thread, and writes a report of it. make runs a workload that
+it generates on such a cache, and writes a summary. behind, memo and gateway are programs on such a
+cache: each reads lines, and writes what it replies to them.
 
 A schedule is lines of text. The first line is cache, and then these options, each or not, in this
 order:
@@ -70,6 +72,18 @@ A report is a line for each event, then for each stored record, ascending by key
 then for each committed write, ascending by number, with where it stands,
 then for each notice, ascending by number, with how far it is,
 then for each registered predicate, in order of registering, with its moment.
+
+make runs N turns, from 1 to 200000, of the workload of SEED, which is below 2^64, on a cache of
+log=64 ttl=2000 listener. It reads nothing. A turn moves the clock on by 10, and then looks one of
+1000 keys up, inserts, loads it by two calls of which one is dropped, removes, or computes; after
+each hundredth turn comes maintenance. The summary is twelve lines, each a word and a number:
+  turns, events              how many turns there were, and how many events they had
+  calls, answers, asks, waits, refused
+                             how many replies were a call's number, an answer, an ask, a wait, or a
+                             refusal
+  entries                    how many records are stored
+  owed, logged, applied      how many writes stand there
+  notices                    how many notices there are, those that are due among them
 
 behind writes to the cache first, and to a keeper later. Its lines:
   set KEY VALUE              the pair is stored, and is a write that is still to be sent

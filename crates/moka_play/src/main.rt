@@ -1,5 +1,5 @@
-//! The program: plays a schedule from standard input, or answers the lines of `behind`, `memo` or
-//! `gateway`, and writes to standard output.
+//! The program: plays a schedule from standard input, runs a workload that it generates, or answers
+//! the lines of `behind`, `memo` or `gateway`, and writes to standard output.
 #![tactic(auto)]
 
 mod help;
@@ -10,6 +10,7 @@ use moka_ends::{ReadSource, WriteSink};
 use moka_gateway_run::gateway;
 use moka_keepers::PlainKeeper;
 use moka_lines::Status;
+use moka_make::make;
 use moka_memo_run::memo;
 use moka_run::play;
 use std::collections::HashMap;
@@ -80,6 +81,7 @@ fn run_standard(rt: &HostRuntime, words: &[String]) -> Status {
             let mut keeper = PlainKeeper::new(HashMap::new(alloc));
             behind(alloc, words, &mut source, &mut sink, &mut keeper)
         }
+        "make" => make(alloc, words, &mut source, &mut sink),
         "memo" => memo(alloc, words, &mut source, &mut sink),
         "gateway" => gateway(alloc, words, &mut source, &mut sink),
         _ => play(alloc, words, &mut source, &mut sink),
