@@ -18,12 +18,16 @@ fn turns_in(digits: &[u8]) -> Option<u32>
     ensures found { IfSome result (λ turns. IsTurns digits.now turns) }
     ensures none { IfNone result ((turns : ℕ) → ¬ IsTurns digits.now turns) }
 {
-    let turns = u32_in(digits)?;
-    if 1 <= turns && turns <= MOST_TURNS {
-        Some(turns)
-    } else {
-        None
+    let Some(turns) = u32_in(digits) else {
+        return None;
+    };
+    if turns == 0 {
+        return None;
     }
+    if turns > MOST_TURNS {
+        return None;
+    }
+    Some(turns)
 }
 
 /// The seed that the bytes spell.
@@ -32,6 +36,22 @@ fn seed_in(digits: &[u8]) -> Option<u64>
     ensures none { IfNone result ((seed : ℕ) → ¬ IsSeed digits.now seed) }
 {
     u64_in(digits)
+}
+
+/// So many turns of the workload of this seed, where the bytes spell both.
+fn numbers_in(turns: &[u8], seed: &[u8]) -> Option<Wanted>
+    ensures turns { IfSome result (λ wanted. IsTurns turns.now wanted.turns) }
+    ensures seed { IfSome result (λ wanted. IsSeed seed.now wanted.seed) }
+    ensures none { IfNone result ((turns' seed' : ℕ) → IsTurns turns.now turns'
+        → ¬ IsSeed seed.now seed') }
+{
+    let Some(turns) = turns_in(turns) else {
+        return None;
+    };
+    let Some(seed) = seed_in(seed) else {
+        return None;
+    };
+    Some(Wanted { turns, seed })
 }
 
 /// What the words of a command line ask for, where they are `make`, a number of turns from 1 to
@@ -46,7 +66,5 @@ pub fn wanted_in(words: &[String]) -> Option<Wanted>
     if word.as_str() != "make" {
         return None;
     }
-    let turns = turns_in(turns.as_bytes())?;
-    let seed = seed_in(seed.as_bytes())?;
-    Some(Wanted { turns, seed })
+    numbers_in(turns.as_bytes(), seed.as_bytes())
 }

@@ -1,0 +1,17 @@
+-- The lengths are those of the lists of a report on the state.
+use Rattle.std.proofs.Common.{◌≡◌, refl, rules}
+use Rattle.moka_make.proofs.summing.sum_up.Goals as goal
+
+pub returns : goal.returns
+returns c = λ s stands. record {
+  entries = c.in_ok-entries.entries;
+  places = c.in_ok-places.places;
+  notices = c.in_ok-notices.notices;
+  reports = record {
+    entries = c.in_ok-entries.ensures s stands;
+    places = c.in_ok-places.ensures s stands;
+    notices = c.in_ok-notices.ensures s stands;
+    tests = refl;
+  };
+  is = search rules;
+}
