@@ -1,3 +1,4 @@
 pub mod Spelled
 pub mod Asked
 pub mod Runs
+pub mod Summed

@@ -21,11 +21,7 @@ pub(crate) type Cache = Machine<u32, u32, u32, NumberTests>;
 
 /// Runs the workload of so many turns and this seed on the cache, and counts the replies. Each event
 /// is made, served and counted before the next one.
-pub(crate) fn run_workload(
-    cache: &mut Cache,
-    turns: u32,
-    seed: u64,
-) -> Result<Tally, AllocError>
+pub(crate) fn run_workload(cache: &mut Cache, turns: u32, seed: u64) -> Result<Tally, AllocError>
     requires valid { IsValid nat_eq number_tests cache.old }
     requires few { turns ≤ MOST_TURNS }
     ensures { IfOk result (λ replies. (first : State ℕ ℕ ℕ)
@@ -74,16 +70,17 @@ fn run_event(
     moka_laws::event_is_lawful::<u32, u32, u32>();
     moka_laws::reached_is_lawful::<u32, u32, u32>();
     moka_laws::lawful_run_goes_on::<u32, u32, u32>();
-    let reply = serve(cache, event)?;
-    replies.count(&reply);
-    Ok(())
+    match serve(cache, event) {
+        Ok(reply) => {
+            replies.count(&reply);
+            Ok(())
+        }
+        Err(e) => Err(e),
+    }
 }
 
 /// Carries an event out. What it tells is handed in, and not copied.
-fn serve(
-    cache: &mut Cache,
-    event: Event<u32, u32, u32>,
-) -> Result<Reply<u32, u32, u32>, AllocError>
+fn serve(cache: &mut Cache, event: Event<u32, u32, u32>) -> Result<Reply<u32, u32, u32>, AllocError>
     requires { IsValid nat_eq number_tests cache.old }
     ensures { IfOk result (λ r. ServesEvent nat_eq number_tests cache.old event r cache.new) }
 {

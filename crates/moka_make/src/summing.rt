@@ -51,12 +51,7 @@ fn build(alloc: Global, rules: Rules) -> Result<Cache, AllocError>
 
 /// Sums up so many turns, which had these replies: with the lengths of the cache's lists, of which
 /// one stands in memory at a time.
-fn sum_up(
-    alloc: Global,
-    cache: &Cache,
-    turns: u32,
-    replies: Tally,
-) -> Result<Summary, AllocError>
+fn sum_up(alloc: Global, cache: &Cache, turns: u32, replies: Tally) -> Result<Summary, AllocError>
     ensures { IfOk result (λ summary. (s : State ℕ ℕ ℕ)
         → MachineIs nat_eq number_tests cache.now s → Sums turns replies s summary) }
 {

@@ -70,10 +70,19 @@ fn workloads_are_summed_up(rt: HostRuntime) -> Result<(), Fail> {
     let rows = [
         ("make 1 7", [1, 11, 2, 1, 2, 1, 2, 1, 0, 1, 0, 0]),
         ("make 1 0", [1, 5, 1, 1, 0, 0, 2, 1, 0, 1, 0, 0]),
-        ("make 1 18446744073709551615", [1, 3, 1, 1, 0, 0, 0, 0, 0, 0, 0, 0]),
+        (
+            "make 1 18446744073709551615",
+            [1, 3, 1, 1, 0, 0, 0, 0, 0, 0, 0, 0],
+        ),
         ("make 99 0", [99, 447, 106, 98, 19, 7, 98, 44, 0, 45, 0, 1]),
-        ("make 100 0", [100, 460, 109, 100, 21, 8, 100, 45, 0, 0, 46, 1]),
-        ("make 2000 5", [2000, 9404, 2206, 1964, 780, 172, 1432, 559, 0, 0, 924, 329]),
+        (
+            "make 100 0",
+            [100, 460, 109, 100, 21, 8, 100, 45, 0, 0, 46, 1],
+        ),
+        (
+            "make 2000 5",
+            [2000, 9404, 2206, 1964, 780, 172, 1432, 559, 0, 0, 924, 329],
+        ),
     ];
     for (words, numbers) in rows {
         let ended = make_of(rt.alloc(), words, &[])?;
@@ -88,9 +97,25 @@ fn workloads_are_summed_up(rt: HostRuntime) -> Result<(), Fail> {
 #[test]
 fn other_words_are_refused(rt: HostRuntime) -> Result<(), Fail> {
     let rows = [
-        "", "make", "make 7", "make 1 7 1", "make 0 5", "make 200001 5", "make 01 5", "make 1 05",
-        "make +1 1", "make 1 -1", "make 1 18446744073709551616", "make 4294967297 1", "make 1 ",
-        "make  1", "Make 1 7", "run", "play", "play x", "play 1 7",
+        "",
+        "make",
+        "make 7",
+        "make 1 7 1",
+        "make 0 5",
+        "make 200001 5",
+        "make 01 5",
+        "make 1 05",
+        "make +1 1",
+        "make 1 -1",
+        "make 1 18446744073709551616",
+        "make 4294967297 1",
+        "make 1 ",
+        "make  1",
+        "Make 1 7",
+        "run",
+        "play",
+        "play x",
+        "play 1 7",
     ];
     for words in rows {
         // Nothing is written, so the write that fails does no harm.
@@ -107,7 +132,11 @@ fn a_failing_write_leaves_the_front_of_the_summary(rt: HostRuntime) -> Result<()
     for (write, written) in rows {
         let ended = make_of(rt.alloc(), "make 1 7", &[write])?;
         assert_eq!(rt; ended.status, Status::WriteFault, "at write {write}");
-        assert_eq!(rt; ended.bytes.as_slice(), written.as_bytes(), "at write {write}");
+        assert_eq!(rt;
+            ended.bytes.as_slice(),
+            written.as_bytes(),
+            "at write {write}"
+        );
     }
     Ok(())
 }

@@ -1,5 +1,5 @@
 -- One event more has run, and at the end all of the turn.
-use Rattle.std.proofs.Common.{◌≡◌, ◌≤◌, ℕ, ◌+◌, List, [], ◌∷◌, ◌++◌, take, length, append_nil, append_assoc, refl, sym, ap, ◌∙◌, subst, arith}
+use Rattle.std.proofs.Common.{◌≡◌, ◌≤◌, ℕ, ◌+◌, List, [], ◌∷◌, ◌++◌, take, length, append-nil, refl, sym, ap, ◌∙◌, subst, arith}
 use Rattle.std.proofs.lemmas.List.{take_all}
 use Rattle.moka_hist.specs.declared.events.Event.{Event}
 use Rattle.moka_workload.specs.Turns.{events_in}
@@ -13,7 +13,7 @@ loop-at-init c = record {
   counted = omega arith;
   going = λ first before ran.
       subst (λ (es : List (Event ℕ ℕ ℕ)). Ran first es c.args.replies.now c.args.cache.now)
-      (sym (append_nil before)) ran;
+      (sym (append-nil before)) ran;
 }
 
 pub loop-at-preserved : goal.loop-at-preserved

@@ -40,3 +40,9 @@ loop-preserved c =
           next
           (c.in_ok-run_turn.ensures.goes_on first (workload i seed) (c.loop.invariant.ran first stands reached));
     }
+
+pub returns : goal.returns
+returns c = λ first stands reached.
+    let all : c.loop.counter ≡ c.args.turns = omega (arith, c.loop.auto.counter-end, c.loop-test.false) in
+    subst (λ n. Ran first (workload n c.args.seed) c.loop.replies c.loop.cache) all
+    (c.loop.invariant.ran first stands reached)

@@ -4,9 +4,9 @@ use Rattle.moka_make.proofs.summing.sum_up.Goals as goal
 
 pub returns : goal.returns
 returns c = λ s stands. record {
-  entries = c.in_ok-entries.entries;
+  entries = c.in_ok-entries.field-0;
   places = c.in_ok-places.places;
-  notices = c.in_ok-notices.notices;
+  notices = c.in_ok-notices.field-0;
   reports = record {
     entries = c.in_ok-entries.ensures s stands;
     places = c.in_ok-places.ensures s stands;
