@@ -1,5 +1,5 @@
 -- The summary of a run, and of what stands after it.
-use Rattle.std.proofs.Common.{◌≡◌, ℕ, None, nat_eq, refl, ap, ◌∙◌, arith, []}
+use Rattle.std.proofs.Common.{ℕ, None, nat_eq, refl, ap, ◌∙◌, arith, []}
 use Rattle.std.specs.declared.cmp.PartialEq as PartialEq
 use Rattle.std.specs.declared.hash.Hash as Hash
 use Rattle.moka_hist.specs.Run.{IsReached}

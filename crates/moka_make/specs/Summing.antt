@@ -1,5 +1,5 @@
 -- What a run on a workload comes to.
-use Rattle.std.specs.Prelude.{◌≡◌, ℕ, Bool, true, false, List, Option, None, Some, length, count_by, nat_eq, codes}
+use Rattle.std.specs.Prelude.{◌≡◌, ℕ, Bool, true, false, List, None, Some, length, count_by, nat_eq, codes}
 use Rattle.moka_hist.specs.State.{State}
 use Rattle.moka_hist.specs.declared.notices.Notice.{Notice}
 use Rattle.moka_hist.specs.declared.records.Stored.{Stored}

@@ -1,5 +1,5 @@
 -- Each of the two words spells one number.
-use Rattle.std.proofs.Common.{◌≡◌, ℕ, ◌^◌, ◌<◌, List, [], get_or, sym, ap, ◌∙◌, arith}
+use Rattle.std.proofs.Common.{[], get_or, sym, ap, ◌∙◌, arith}
 use Rattle.std.proofs.lemmas.Fmt.{decimal_injective}
 use Rattle.moka_make.proofs.laws.words_ask_for_one.Goals as goal
 

@@ -1,5 +1,5 @@
 -- No turn has run, and then one more.
-use Rattle.std.proofs.Common.{◌≡◌, ◌≤◌, ℕ, ◌+◌, ◌*◌, List, ◌++◌, refl, sym, ap, ◌∙◌, subst, arith}
+use Rattle.std.proofs.Common.{◌≡◌, ℕ, ◌+◌, List, ◌++◌, sym, ap, ◌∙◌, subst, arith}
 use Rattle.moka_hist.specs.declared.events.Event.{Event}
 use Rattle.moka_workload.specs.Made.{Made}
 use Rattle.moka_workload.specs.Turns.{events_in}

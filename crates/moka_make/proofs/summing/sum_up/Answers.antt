@@ -1,5 +1,5 @@
 -- The lengths are those of the lists of a report on the state.
-use Rattle.std.proofs.Common.{◌≡◌, refl, rules}
+use Rattle.std.proofs.Common.{refl, rules}
 use Rattle.moka_make.proofs.summing.sum_up.Goals as goal
 
 pub returns : goal.returns

@@ -1,5 +1,5 @@
 -- The turns are the number that is read, where that is in its range.
-use Rattle.std.proofs.Common.{◌≡◌, ◌≤◌, ◌^◌, sym, ◌∙◌, arith}
+use Rattle.std.proofs.Common.{◌^◌, sym, ◌∙◌, arith}
 use Rattle.moka_lines.proofs.Numbers.{number_found}
 use Rattle.moka_make.proofs.Spelled.{turns_read, unread}
 use Rattle.moka_make.proofs.words.turns_in.Goals as goal
