@@ -1,19 +1,21 @@
 -- What a pass of an insert tells, from what its caller had seen before.
-use Rattle.std.proofs.Common.{◌≡◌, ℕ, ◌<◌, ◌≤◌, Bool, List, [], ◌∷◌, ◌++◌, append_assoc, Some, sym, ap, subst, ◌∙◌, arith}
+use Rattle.std.proofs.Common.{◌≡◌, ℕ, ◌<◌, ◌≤◌, Bool, false, List, [], ◌∷◌, ◌++◌, append_assoc, Some, inl, inr, sym, ap, subst, ◌∙◌, arith}
 use mathlib.Core.List.{IsPrefix}
 use Rattle.moka_history.specs.declared.note.Note.{Note}
 use Rattle.std.specs.Option.{option_map}
+use Rattle.std.specs.List.{slice_get}
 use Rattle.moka_history.specs.Entries.{Entry, map_after}
+use Rattle.moka_history.specs.States.{Ticket}
 use Rattle.moka_history.specs.Logs.{entries_of, state_of}
 use Rattle.moka_history.specs.Rules.{IsKept, made_on}
 use Rattle.moka_history.proofs.Folds.{entries_begin, entries_grow}
-use Rattle.moka_history.proofs.Fronts.{lasts_now, made_still}
+use Rattle.moka_history.proofs.Fronts.{good_now, lasts_now, made_still}
 use Rattle.moka_shared.specs.declared.answers.Missed.{Missed}
 use Rattle.moka_shared.specs.declared.answers.Missed.TheVariants as missed
 use Rattle.moka_shared.specs.declared.answers.Put.{Put}
 use Rattle.moka_shared.specs.declared.answers.Put.TheVariants as put
 use Rattle.moka_shared.specs.declared.seat.Seat.{Seat}
-use Rattle.moka_shared.specs.Inserts.{Adds, AreMade, IsMetBy, IsReason, IsThere, Puts, PutsOn, StandsSo}
+use Rattle.moka_shared.specs.Inserts.{Adds, AreMade, IsMetBy, IsReason, IsThere, MakesNone, Puts, PutsOn, StandsSo}
 use Rattle.moka_shared.specs.Looks.{IsNodeHidden}
 use Rattle.moka_shared.specs.Tables.{Table}
 
@@ -26,6 +28,10 @@ module _ {K V S : Type 0} (eq : K → K → Bool) (hash : S → K → ℕ) (plac
       by : (front : List (Note K V S)) → IsPrefix front new → made_on n (entries_of front) ≡ 1 → made_on n (entries_of new) ≡ 1
       by [] pre one = absurd (omega (arith, one))
       by (x ∷ front) pre one = made_still eq hash place new kept (x ∷ front) (record { some = omega arith; begins = pre }) n one
+
+  -- a ticket whose cell isn't home has no entry
+  pub none_made : (own ticket : ℕ) → slice_get (state_of new).cells own ≡ Some (Ticket ticket false) → made_on ticket (entries_of new) ≡ 0
+  none_made own ticket at = ((good_now eq hash place new kept).drawn.cells own ticket false at).1
 
   pub last_since : (old : List (Note K V S)) → IsPrefix old new → (state_of old).last ≤ (state_of new).last
   last_since [] pre = omega arith
@@ -46,7 +52,21 @@ adds_since e old mid new begins adds =
 module _ {K V S H : Type 0} (eq : K → K → Bool) (place : S → ℕ → K → ℕ) (t : Table S) (h : ℕ) (key : K) (value : V)
     (old mid new : Seat K V S H) (begins : IsPrefix old.front.log mid.front.log) (mine : mid.mine ≡ old.mine) where
   -- what holds of what had been seen later holds of what had been seen before
-  module _ (rises : (state_of old.front.log).last ≤ (state_of mid.front.log).last) (hidden : mid.hidden ≡ old.hidden) where
+  module _ (rises : (state_of old.front.log).last ≤ (state_of mid.front.log).last) (hidden : mid.hidden ≡ old.hidden) (drawn : mid.drawn ≡ old.drawn) where
+    none_since : MakesNone mid new → MakesNone old new
+    none_since r = record {
+      mine = r.mine ∙ mine;
+      none = elim r.none [
+        | inl same ↦ inl (same ∙ drawn)
+        | inr vain ↦ (let late = vain.late in inr (record {
+          ticket = vain.ticket;
+          late = omega (arith, rises, late);
+          drawn = vain.drawn ∙ ap (λ m. vain.ticket ∷ m.numbers) drawn;
+          none = vain.none;
+        }))
+      ];
+    }
+
     reason_since : (m : Missed) → IsReason eq place t h mid new m → IsReason eq place t h old new m
     reason_since (missed.Sealed w a i) r = (r.0, r.1, r.2 ∙ hidden)
     reason_since (missed.NodeHidden n) r = subst (λ x. IsNodeHidden t h new.front.log x new.hidden n) hidden r
@@ -58,6 +78,7 @@ module _ {K V S H : Type 0} (eq : K → K → Bool) (place : S → ℕ → K →
         record {
           ticket = r.ticket;
           late = omega (arith, rises, late);
+          drawn = r.drawn ∙ ap (λ m. r.ticket ∷ m.numbers) drawn;
           passed = r.passed;
           front = r.front;
           past = omega (arith, grown, past);
@@ -74,19 +95,23 @@ module _ {K V S H : Type 0} (eq : K → K → Bool) (place : S → ℕ → K →
           ticket = p.ticket;
           late = omega (arith, rises, late);
           adds = adds_since _ old.front.log mid.front.log new.front.log begins p.adds;
+          drawn = p.drawn ∙ ap (λ m. p.ticket ∷ m.numbers) drawn;
           mine = p.mine ∙ ap (λ m. p.ticket ∷ m.numbers) mine;
         }
-    puts_since (put.There found) p = (p.0 ∙ mine, p.1)
-    puts_since (put.Missed m) p = (p.0 ∙ mine, reason_since m p.1)
-    puts_since put.Memory p = p ∙ mine
+    puts_since (put.There found) p = (p.0 ∙ mine, p.1 ∙ drawn, p.2)
+    puts_since (put.Missed m) p = (none_since p.0, reason_since m p.1)
+    puts_since put.Memory p = none_since p
 
   -- what is put on a ticket that was drawn
-  module _ (passed ticket : ℕ) (late : (state_of old.front.log).last < ticket) where
+  module _ (passed ticket : ℕ) (late : (state_of old.front.log).last < ticket) (drawn : new.drawn.numbers ≡ ticket ∷ old.drawn.numbers) where
+    in_vain : new.mine ≡ mid.mine → made_on ticket (entries_of new.front.log) ≡ 0 → MakesNone old new
+    in_vain same none = record { mine = same ∙ mine; none = inr (record { ticket = ticket; late = late; drawn = drawn; none = none }) }
+
     met_since : (m : Missed) → IsMetBy t h passed ticket old.front.log new.front.log m → IsReason eq place t h old new m
     met_since (missed.Sealed w a i) r = absurd r
     met_since (missed.NodeHidden n) r = absurd r
     met_since (missed.ArrayHidden a) r = absurd r
-    met_since (missed.Lost w) r = record { ticket = ticket; late = late; passed = passed; front = old.front.log; past = omega arith; met = r }
+    met_since (missed.Lost w) r = record { ticket = ticket; late = late; drawn = drawn; passed = passed; front = old.front.log; past = omega arith; met = r }
     met_since (missed.Ticket n) r = absurd r
     met_since (missed.NoFree n) r = absurd r
     met_since missed.Spent r = absurd r
@@ -96,11 +121,12 @@ module _ {K V S H : Type 0} (eq : K → K → Bool) (place : S → ℕ → K →
       ticket = ticket;
       late = late;
       adds = adds_since _ old.front.log mid.front.log new.front.log begins p.0;
+      drawn = drawn;
       mine = p.1 ∙ ap (λ m. ticket ∷ m.numbers) mine;
     }
     puts_drawn (put.There found) p = absurd p
-    puts_drawn (put.Missed m) p = (p.0 ∙ mine, met_since m p.1)
-    puts_drawn put.Memory p = p ∙ mine
+    puts_drawn (put.Missed m) p = (in_vain p.0 p.1, met_since m p.2)
+    puts_drawn put.Memory p = in_vain p.0 p.1
 
 module _ {K V S H : Type 0} (eq : K → K → Bool) (hash : S → K → ℕ) (place : S → ℕ → K → ℕ) (t : Table S) (h : ℕ) (key : K) (value : V)
     (old new : Seat K V S H) (begins : IsPrefix old.front.log new.front.log) (kept : IsKept eq hash place new.front.log) where
@@ -118,17 +144,17 @@ module _ {K V S H : Type 0} (eq : K → K → Bool) (hash : S → K → ℕ) (pl
       by : (r : Put V) → Puts eq place t h key value old new r → AreMade new.mine.numbers (entries_of new.front.log)
       by put.Done p = subst (λ ns. AreMade ns (entries_of new.front.log)) (sym p.mine) (p.adds.once, still)
       by (put.There found) p = same p.0
-      by (put.Missed m) p = same p.0
-      by put.Memory p = same p
+      by (put.Missed m) p = same p.0.mine
+      by put.Memory p = same p.mine
 
 -- a value that stands there already
 pub puts_there : {K V S H : Type 0} (eq : K → K → Bool) (place : S → ℕ → K → ℕ) (t : Table S) (h : ℕ) (key : K) (value : V) (old new : Seat K V S H) (v : V) →
-    new.mine ≡ old.mine → Some v ≡ option_map (λ p. p.1) (map_after eq (entries_of new.front.log) key) → (r : Put V) → IsThere v r →
+    new.mine ≡ old.mine → new.drawn ≡ old.drawn → Some v ≡ option_map (λ p. p.1) (map_after eq (entries_of new.front.log) key) → (r : Put V) → IsThere v r →
     Puts eq place t h key value old new r
-puts_there eq place t h key value old new v mine is put.Done there = absurd there
-puts_there eq place t h key value old new v mine is (put.There found) there = (mine, ap Some there ∙ is)
-puts_there eq place t h key value old new v mine is (put.Missed m) there = absurd there
-puts_there eq place t h key value old new v mine is put.Memory there = mine
+puts_there eq place t h key value old new v mine drawn is put.Done there = absurd there
+puts_there eq place t h key value old new v mine drawn is (put.There found) there = (mine, drawn, ap Some there ∙ is)
+puts_there eq place t h key value old new v mine drawn is (put.Missed m) there = absurd there
+puts_there eq place t h key value old new v mine drawn is put.Memory there = record { mine = mine; none = inl drawn }
 
 -- what is so of a value that stands there
 pub stands_more : {V : Type 0} (A B : V → Type 0) → ((v : V) → A v → B v) → (r : Put V) → StandsSo A r → StandsSo B r

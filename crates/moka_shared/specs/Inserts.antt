@@ -1,5 +1,5 @@
 -- What an insert does and answers, and why it has to be made again.
-use Rattle.std.specs.Prelude.{◌≡◌, ◌≢◌, ℕ, suc, ◌^◌, ◌<◌, ◌≤◌, Bool, List, [], ◌∷◌, ◌++◌, length, Some, None}
+use Rattle.std.specs.Prelude.{◌≡◌, ◌≢◌, ◌⊎◌, ℕ, suc, ◌^◌, ◌<◌, ◌≤◌, Bool, List, [], ◌∷◌, ◌++◌, length, Some, None}
 use Rattle.std.specs.List.{slice_get}
 use Rattle.std.specs.Option.{option_map}
 use mathlib.Core.List.{IsPrefix}
@@ -102,8 +102,10 @@ PutsOn t hash passed ticket key value front old new put.Done =
     × (new.mine.numbers ≡ ticket ∷ old.mine.numbers)
 PutsOn t hash passed ticket key value front old new (put.There found) = ⊥
 PutsOn t hash passed ticket key value front old new (put.Missed missed) =
-    (new.mine ≡ old.mine) × IsMetBy t hash passed ticket front new.front.log missed
-PutsOn t hash passed ticket key value front old new put.Memory = new.mine ≡ old.mine
+    (new.mine ≡ old.mine) × (made_on ticket (entries_of new.front.log) ≡ 0)
+    × IsMetBy t hash passed ticket front new.front.log missed
+PutsOn t hash passed ticket key value front old new put.Memory =
+    (new.mine ≡ old.mine) × (made_on ticket (entries_of new.front.log) ≡ 0)
 
 -- the fact holds of the value that stands there already
 abbrev pub StandsSo : {V : Type 0} → (V → Type 0) → Put V → Type 0
@@ -132,6 +134,7 @@ module _ {K V S H : Type 0} (eq : K → K → Bool) (place : S → ℕ → K →
   pub record IsLost (word : Word) : Type 0 where
     pub ticket : ℕ
     pub late : (state_of old.front.log).last < ticket
+    pub drawn : new.drawn.numbers ≡ ticket ∷ old.drawn.numbers
     pub passed : ℕ
     pub front : List (Note K V S)
     pub past : length (entries_of old.front.log) ≤ length (entries_of front)
@@ -159,17 +162,30 @@ module _ {K V S H : Type 0} (key : K) (value : V) (old new : Seat K V S H) where
     pub ticket : ℕ
     pub late : (state_of old.front.log).last < ticket
     pub adds : Adds (entry_put ticket key value) old.front.log new.front.log
+    pub drawn : new.drawn.numbers ≡ ticket ∷ old.drawn.numbers
     pub mine : new.mine.numbers ≡ ticket ∷ old.mine.numbers
+
+-- a ticket was drawn in this call, and has no entry
+pub record IsVain {K V S H : Type 0} (old new : Seat K V S H) : Type 0 where
+  pub ticket : ℕ
+  pub late : (state_of old.front.log).last < ticket
+  pub drawn : new.drawn.numbers ≡ ticket ∷ old.drawn.numbers
+  pub none : made_on ticket (entries_of new.front.log) ≡ 0
+
+-- This call made no entry: it drew no ticket, or one that has none.
+pub record MakesNone {K V S H : Type 0} (old new : Seat K V S H) : Type 0 where
+  pub mine : new.mine ≡ old.mine
+  pub none : (new.drawn ≡ old.drawn) ⊎ IsVain old new
 
 module _ {K V S H : Type 0} (eq : K → K → Bool) (place : S → ℕ → K → ℕ) (t : Table S)
     (hash : ℕ) (key : K) (value : V) (old new : Seat K V S H) where
   -- what became of a pair that was to be put
   abbrev pub Puts : Put V → Type 0
   Puts put.Done = Inserts key value old new
-  Puts (put.There found) = (new.mine ≡ old.mine)
+  Puts (put.There found) = (new.mine ≡ old.mine) × (new.drawn ≡ old.drawn)
       × (Some found ≡ option_map (λ p. p.1) (map_after eq (entries_of new.front.log) key))
-  Puts (put.Missed missed) = (new.mine ≡ old.mine) × IsReason eq place t hash old new missed
-  Puts put.Memory = new.mine ≡ old.mine
+  Puts (put.Missed missed) = MakesNone old new × IsReason eq place t hash old new missed
+  Puts put.Memory = MakesNone old new
 
   -- what an insert answers
   abbrev pub Answers : TryInsert K V → Type 0

@@ -1,5 +1,5 @@
 //! Steps by which a front of the history moves on.
-ghost use Rattle.std.specs.Prelude.{◌≡◌, ◌≢◌, false, ◌+◌, ◌<◌, ◌≤◌, ◌^◌, Bool, Some, length, true, IfErr, IfOk, OnOk};
+ghost use Rattle.std.specs.Prelude.{◌≡◌, ◌≢◌, false, ◌+◌, ◌<◌, ◌≤◌, ◌^◌, ◌∷◌, Bool, Some, length, true, IfErr, IfOk, OnOk};
 ghost use Rattle.std.specs.List.{slice_get};
 ghost use Rattle.logbook.specs.Pages.{may_write, nib};
 ghost use Rattle.moka_history.specs.Logs.{state_of};
@@ -11,6 +11,8 @@ ghost use Rattle.moka_shared.specs.Steps.{MayExchange, Pens, Sees, Spends, Write
 
 use crate::asked::{Drawn, Exchange};
 use crate::book::{Change, Draw, Law, Look, Nothing};
+use crate::tickets::with_ticket;
+use boxcar::tag::Tag;
 use logbook::{Offer, Pen, Seen, Word};
 use moka_history::Note;
 use std::hash::{BuildHasher, Hash};
@@ -33,9 +35,11 @@ pub(crate) fn look<K: Eq + Hash, V, S: BuildHasher>(
 }
 
 /// Draws the next ticket, where the door's word still is `drawn`, and names its pair. Answers the
-/// pen of the ticket's cell, or else what the door's word is by now.
+/// pen of the ticket's cell, or else what the door's word is by now. Each ticket that a caller has is
+/// drawn here, and is added to its own.
 pub(crate) fn draw<K: Eq + Hash, V, S: BuildHasher>(
     front: &mut Seen<Note<K, V, S>, u64, Law>,
+    own: &mut Tag,
     door: &Word<Note<K, V, S>, u64, Law>,
     drawn: u64,
     asked: &Drawn<'_, K, V>,
@@ -48,6 +52,8 @@ pub(crate) fn draw<K: Eq + Hash, V, S: BuildHasher>(
     ensures book { front.new.book ≡ front.old.book }
     ensures names { IfOk result (λ pen. (pen.book ≡ front.new.book)
         × Pens asked.now.ticket pen.nib front.new.log) }
+    ensures own { IfOk result (λ pen. own.new.numbers ≡ asked.now.ticket ∷ own.old.numbers) }
+    ensures stays { IfErr result (λ found. own.new ≡ own.old) }
     ensures writes { OnOk result (Writes K.eq
         (hash_in S.BuildHasher S.Hasher.Hasher K.hash_input)
         (place_in S.BuildHasher S.Hasher.Hasher K.hash_input) 0 drawn
@@ -75,6 +81,7 @@ pub(crate) fn draw<K: Eq + Hash, V, S: BuildHasher>(
         return Err(found);
     }
     let _cell: Word<Note<K, V, S>, u64, Law> = Word::tracked(0, &mut pen);
+    *own = with_ticket(asked.ticket, own);
     Ok(pen)
 }
 

@@ -61,14 +61,32 @@ impl<K: Eq + Hash + Exact + Drop, V: Exact + Drop, S: BuildHasher + Drop, P: Fac
         ensures answers { Answers K.eq (place_in S.BuildHasher S.Hasher.Hasher K.hash_input)
             self.now hash key value seat.old seat.new result }
     {
-        seat.front.learn(&self.start);
-        let mut eq = |other: &K| key == *other;
-        match self.insert(seat, &key, hash, &value, &mut eq) {
+        match self.insert_once(seat, &key, hash, &value) {
             Put::Done => TryInsert::Inserted,
             Put::There(found) => TryInsert::Present { found, key, value },
             Put::Missed(missed) => TryInsert::Again { missed, key, value },
             Put::Memory => TryInsert::Memory { key, value },
         }
+    }
+
+    // Puts the pair where its key is absent, by one pass.
+    fn insert_once(&self, seat: &mut Seat<K, V, S>, key: &K, hash: u64, value: &V) -> Put<V>
+        requires seat { seat.old.front.book ≡ self.now.book }
+        requires hash { hash ≡ hash_in S.BuildHasher S.Hasher.Hasher K.hash_input
+            self.now.hasher key.now }
+        requires fact { P.holds key.now value.now }
+        ensures seat { seat.new.front.book ≡ self.now.book }
+        ensures history { IsPrefix seat.old.front.log seat.new.front.log }
+        ensures legal { IsLegal K.eq (entries_of seat.new.front.log) }
+        ensures made { AreMade seat.old.mine.numbers (entries_of seat.old.front.log)
+            → AreMade seat.new.mine.numbers (entries_of seat.new.front.log) }
+        ensures fact { StandsSo (P.holds key.now) result }
+        ensures puts { Puts K.eq (place_in S.BuildHasher S.Hasher.Hasher K.hash_input) self.now
+            hash key.now value.now seat.old seat.new result }
+    {
+        seat.front.learn(&self.start);
+        let mut eq = |other: &K| *key == *other;
+        self.insert(seat, key, hash, value, &mut eq)
     }
 
     // Seeks the key, and puts the pair where it ended.
@@ -188,7 +206,7 @@ impl<K: Eq + Hash + Exact + Drop, V: Exact + Drop, S: BuildHasher + Drop, P: Fac
         let Ok(own_value) = value.clone() else {
             return Put::Memory;
         };
-        match self.draw_for(&mut seat.front, key, value) {
+        match self.draw_for(&mut seat.front, &mut seat.drawn, key, value) {
             Ok(drawn) => self.put_on(seat, own_key, own_value, gap, drawn),
             Err(missed) => Put::Missed(missed),
         }

@@ -16,6 +16,7 @@ mod seat;
 mod seek;
 mod segments;
 mod table;
+mod tickets;
 mod words;
 
 pub use answers::{Missed, TryGet, TryInsert};

@@ -51,6 +51,7 @@ impl<K: Eq + Hash, V, S: BuildHasher, P: Fact<K, V>> HashMap<K, V, S, P> {
         requires callable { F.IsAlwaysCallable eq }
         ensures seat { seat.new.front.book ≡ self.now.book }
         ensures mine { seat.new.mine ≡ seat.old.mine }
+        ensures drawn { seat.new.drawn ≡ seat.old.drawn }
         ensures history { IsPrefix seat.old.front.log seat.new.front.log }
         ensures legal { IsLegal K.eq (entries_of seat.new.front.log) }
         ensures made { AreMade seat.old.mine.numbers (entries_of seat.old.front.log)

@@ -194,12 +194,13 @@ impl<K: Eq + Hash, V, S: BuildHasher, P: Fact<K, V>> HashMap<K, V, S, P> {
     /// A seat that has seen the beginning alone. It takes no memory.
     pub fn seat(&self) -> Seat<K, V, S>
         ensures seat { result.front.book ≡ self.now.book }
-        ensures mine { result.mine.numbers ≡ [] }
+        ensures mine { (result.mine.numbers ≡ []) × (result.drawn.numbers ≡ []) }
         ensures none { (entries_of result.front.log ≡ []) × (result.hidden.count ≡ 0) }
     {
         Seat {
             front: self.start.again(),
             hidden: self.shelf.fresh_look(),
+            drawn: Tag::empty(),
             mine: Tag::empty(),
         }
     }
@@ -218,6 +219,7 @@ impl<K: Eq + Hash, V, S: BuildHasher, P: Fact<K, V>> HashMap<K, V, S, P> {
         ensures legal { IsLegal K.eq (entries_of a.new.front.log)
             × IsLegal K.eq (entries_of b.new.front.log) }
         ensures mine { (a.new.mine ≡ a.old.mine) × (b.new.mine ≡ b.old.mine) }
+        ensures drawn { (a.new.drawn ≡ a.old.drawn) × (b.new.drawn ≡ b.old.drawn) }
         ensures a_made { AreMade a.old.mine.numbers (entries_of a.old.front.log)
             → AreMade a.new.mine.numbers (entries_of a.new.front.log) }
         ensures b_made { AreMade b.old.mine.numbers (entries_of b.old.front.log)

@@ -2,7 +2,8 @@
 ghost use Rattle.std.specs.Prelude.{◌≡◌, ◌<◌, ◌≤◌, ◌+◌, ◌^◌, ◌∷◌, Some, None, IfOk, IfErr, OnOk, List};
 ghost use mathlib.Core.List.{IsPrefix};
 ghost use Rattle.moka_words.specs.Words.{stored_in};
-ghost use Rattle.moka_history.specs.Logs.{state_of};
+ghost use Rattle.moka_history.specs.Logs.{entries_of, state_of};
+ghost use Rattle.moka_history.specs.Rules.{made_on};
 ghost use Rattle.moka_history.specs.declared.note.Note.{Note};
 ghost use Rattle.moka_shared.specs.Hashing.{hash_in, place_in};
 ghost use Rattle.moka_shared.specs.Inserts.{Adds, CanPut, IsDrawnFor, IsMet, IsUndrawn, PutsOn, StandsSo, entry_put};
@@ -18,8 +19,9 @@ use crate::node::Node;
 use crate::seat::Seat;
 use crate::segments::{bucket_at, position, segment_of};
 use crate::table::HashMap;
+use crate::tickets::with_ticket;
 use crate::words::{number_of, word_of};
-use boxcar::tag::{Names, Tag};
+use boxcar::tag::Tag;
 use logbook::{Pen, Seen};
 use moka_history::Note;
 use moka_shelf::Shelf;
@@ -44,35 +46,6 @@ pub(crate) struct Ticketed {
     pen: Pen,
 }
 
-// A ticket, before those that the caller has.
-#[derive(Drop)]
-struct Added {
-    ticket: u64,
-    mine: Tag,
-}
-
-struct First;
-
-impl Names<Added> for First {
-    ghost use Rattle.std.specs.Prelude.{◌∷◌};
-
-    ghost numbers = { λ x. x.ticket ∷ x.mine.numbers };
-}
-
-struct Same;
-
-impl Names<Tag> for Same {
-    ghost numbers = { λ tag. tag.numbers };
-}
-
-// The caller's tickets, and one more.
-fn with_ticket(ticket: u64, mine: &Tag) -> Tag
-    ensures { result.numbers ≡ ticket ∷ mine.now.numbers }
-{
-    let mine = Tag::of::<Tag, Same>(mine);
-    Tag::of::<Added, First>(&Added { ticket, mine })
-}
-
 impl<K: Eq + Hash, V, S: BuildHasher, P: Fact<K, V>> HashMap<K, V, S, P> {
     // How many tickets were drawn. The front becomes the log at the load.
     fn drawn(&self, front: &mut Seen<Note<K, V, S>, u64, Law>) -> u64
@@ -93,6 +66,7 @@ impl<K: Eq + Hash, V, S: BuildHasher, P: Fact<K, V>> HashMap<K, V, S, P> {
     pub(crate) fn draw_for(
         &self,
         front: &mut Seen<Note<K, V, S>, u64, Law>,
+        own: &mut Tag,
         key: &K,
         value: &V,
     ) -> Result<Ticketed, Missed>
@@ -105,7 +79,9 @@ impl<K: Eq + Hash, V, S: BuildHasher, P: Fact<K, V>> HashMap<K, V, S, P> {
             front.old.log front.new.log }
         ensures drawn { IfOk result (λ d. (d.pen.book ≡ front.new.book)
             × IsDrawnFor key.now value.now d.ticket d.pen.nib front.old.log front.new.log) }
+        ensures own { IfOk result (λ d. own.new.numbers ≡ d.ticket ∷ own.old.numbers) }
         ensures missed { IfErr result (IsUndrawn front.old.log front.new.log) }
+        ensures stays { IfErr result (λ missed. own.new ≡ own.old) }
     {
         let first = self.segments as u64;
         let drawn = self.drawn(front);
@@ -117,7 +93,7 @@ impl<K: Eq + Hash, V, S: BuildHasher, P: Fact<K, V>> HashMap<K, V, S, P> {
             ticket,
             pair: Some((key, value)),
         };
-        match draw(front, &self.door, drawn, &asked) {
+        match draw(front, own, &self.door, drawn, &asked) {
             Ok(pen) => Ok(Ticketed { ticket, pen }),
             Err(found) => Err(Missed::Ticket(first + found)),
         }
@@ -148,6 +124,7 @@ impl<K: Eq + Hash, V, S: BuildHasher, P: Fact<K, V>> HashMap<K, V, S, P> {
             gap.now.passed gap.now.word drawn.ticket key value found seat.old.front.log }
         ensures book { seat.new.front.book ≡ seat.old.front.book }
         ensures hidden { seat.new.hidden ≡ seat.old.hidden }
+        ensures drawn { seat.new.drawn ≡ seat.old.drawn }
         ensures goes_on { GoesOn K.eq (hash_in S.BuildHasher S.Hasher.Hasher K.hash_input)
             (place_in S.BuildHasher S.Hasher.Hasher K.hash_input) self.now
             seat.old.front.log seat.new.front.log }
@@ -203,6 +180,7 @@ impl<K: Eq + Hash, V, S: BuildHasher, P: Fact<K, V>> HashMap<K, V, S, P> {
             (place_in S.BuildHasher S.Hasher.Hasher K.hash_input) self.now gap.now.hash
             gap.now.passed gap.now.word ticket key value found front.old.log
             → IsMet self.now gap.now.hash gap.now.passed ticket found word front.new.log) }
+        ensures none { IfErr result (λ word. made_on ticket (entries_of front.new.log) ≡ 0) }
     {
         let segment = segment_of(self.segments, gap.hash);
         let index = bucket_at(self.size, gap.hash, gap.passed);

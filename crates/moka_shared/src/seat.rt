@@ -7,11 +7,12 @@ use moka_history::Note;
 use moka_shelf::Hidden;
 use std::hash::{BuildHasher, Hash};
 
-/// What one caller has seen of the history of a table, what the table's shelf has hidden from it, and
-/// the tickets under which it has made changes.
+/// What one caller has seen of the history of a table, what the table's shelf has hidden from it, the
+/// tickets that it has drawn, and those of them under which it has made changes.
 #[derive(Drop)]
 pub struct Seat<K: Eq + Hash, V, S: BuildHasher> {
     pub(crate) front: Seen<Note<K, V, S>, u64, Law>,
     pub(crate) hidden: Hidden,
+    pub(crate) drawn: Tag,
     pub(crate) mine: Tag,
 }

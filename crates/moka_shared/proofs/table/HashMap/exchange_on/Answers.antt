@@ -6,6 +6,7 @@ use Rattle.moka_shared.specs.Inserts.{Adds, entry_put}
 use Rattle.moka_shared.specs.Steps.{Sees}
 use Rattle.moka_shared.specs.Tables.{IsTable}
 use Rattle.moka_shared.proofs.Divided.{divided}
+use Rattle.moka_shared.proofs.Inserted.{none_made}
 use Rattle.moka_shared.proofs.Loading.{loaded, reads_at}
 use Rattle.moka_shared.proofs.Putting.{adds_entry, may_put, met_entry, ticket_small}
 use Rattle.moka_shared.proofs.Row.{bucket_read}
@@ -150,3 +151,9 @@ returns-in-Err-clause-met g c = λ key value found can.
     let loads = loaded eq hash place t old new c.requires.log segment index below inside c.in-Err.found sees word c.word_of.ensures in
     let reads = reads_at eq hash place t old new segment index word loads gap.hash gap.passed hash_is index_is can.ends.within in
     record { entry = met.0; there = met.1; other = met.2; met = reads.there }
+
+pub returns-in-Err-clause-none : goal.returns-in-Err-clause-none
+returns-in-Err-clause-none g c =
+    none_made g.K.PartialEq.eq (hash_in g.S.BuildHasher g.S.Hasher.Hasher g.K.Hash.hash_input)
+    (place_in g.S.BuildHasher g.S.Hasher.Hasher g.K.Hash.hash_input) c.exchange.new.front.log c.in-Err.ensures.sees.kept c.args.pen.now.nib.key
+    c.args.ticket c.in-Err.ensures.away

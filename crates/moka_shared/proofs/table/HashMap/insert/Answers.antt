@@ -1,4 +1,4 @@
-use Rattle.std.proofs.Common.{◌<◌, ap, arith, refl, subst}
+use Rattle.std.proofs.Common.{◌<◌, ap, arith, inl, refl, subst}
 use Rattle.moka_shared.specs.Hashing.{hash_in, place_in, segment_of}
 use Rattle.moka_shared.proofs.Divided.{divided}
 use Rattle.moka_shared.proofs.Drawing.{last_rises}
@@ -20,9 +20,9 @@ returns-in-At-clause-puts g c =
     let t = c.args.self.now in
     let old = c.args.seat.now in
     let goes = c.seek-ended.ensures.goes_on in
-    puts_since eq place t c.args.hash c.args.key.now c.args.value.now old record { front = c.seek-ended.new.front; hidden = c.seek-ended.new.hidden; mine = old.mine }
+    puts_since eq place t c.args.hash c.args.key.now c.args.value.now old record { front = c.seek-ended.new.front; hidden = c.seek-ended.new.hidden; drawn = old.drawn; mine = old.mine }
     c.insert_at.new.seat goes.begins refl (last_rises eq hash place t old.front.log c.seek-ended.new.front.log c.requires.log goes.is_log goes.begins)
-    c.in-At.ensures.stops.1 c.insert_at.result c.insert_at.ensures.puts
+    c.in-At.ensures.stops.1 refl c.insert_at.result c.insert_at.ensures.puts
 
 pub returns-in-Full-clause-puts : goal.returns-in-Full-clause-puts
 returns-in-Full-clause-puts g c =
@@ -36,7 +36,7 @@ returns-in-Full-clause-puts g c =
     let own_below : place t.hasher t.segments key < t.segments = subst (λ n. segment_of t.segments n < t.segments) c.requires.hash below in
     let size_is = ap (λ s. s.size) c.self.view_is in
     let probed = c.in-Full.ensures.ends key c.requires.computes c.requires.hash in (
-      refl,
+      record { mine = refl; none = inl refl },
       (
         size_is,
         filled eq hash place equals t key own_below c.args.hash c.requires.hash c.seek-ended.new.front.log c.seek-ended.ensures.goes_on.is_log probed
@@ -54,4 +54,4 @@ returns-in-Hidden-clause-puts g c =
     let below = segment_below t.segments c.args.hash c.requires.log.some (let f = c.ranges.hash.fits in omega (arith, f)) in
     let told = c.in-Hidden.ensures.stops in
     let pair = pair_read eq hash place t log c.seek-ended.ensures.goes_on.is_log c.args.hash c.in-Hidden.number below told.0 in
-    (refl, record { reads = told.0; pair = pair.0; named = pair.1; hides = told.1 })
+    (record { mine = refl; none = inl refl }, record { reads = told.0; pair = pair.0; named = pair.1; hides = told.1 })

@@ -1,4 +1,4 @@
-use Rattle.std.proofs.Common.{◌≡◌, ◌∙◌, ◌<◌, Some, ap, refl, subst, suc, sym}
+use Rattle.std.proofs.Common.{◌≡◌, ◌∙◌, ◌<◌, Some, ap, inl, refl, subst, suc, sym}
 use Rattle.std.specs.Option.{option_map}
 use Rattle.moka_words.specs.Arrays.{bucket_at}
 use Rattle.moka_words.specs.Words.{word_at}
@@ -37,7 +37,7 @@ returns-in-None-clause-puts g c = λ value.
       names = stored_is_key gap.word c.args.number c.requires.stored;
     } in
     let pair = pair_read eq hash place t log c.requires.log gap.hash c.args.number c.requires.below reads in
-    (refl, record { reads = reads; pair = pair.0; named = pair.1; hides = c.in-None.ensures.hides })
+    (record { mine = refl; none = inl refl }, record { reads = reads; pair = pair.0; named = pair.1; hides = c.in-None.ensures.hides })
 
 pub returns-in-Some-clause-puts : goal.returns-in-Some-clause-puts
 returns-in-Some-clause-puts g c = λ value.
@@ -65,7 +65,7 @@ returns-in-Some-clause-puts g c = λ value.
     let all = history ∙ (ap (λ o. pair_at (state_of log).pairs o) c.requires.stored ∙ pair.1) in
     let node_is = c.is_named.ensures.pair pair.0 (ap (λ n. (state_of log).pairs n) c.in-Some.ensures.shows ∙ pair.1) in
     let value_is : c.value.result.now ≡ pair.0.1 = c.value.ensures ∙ ap (λ q. q.1) (sym node_is) in
-    puts_there eq place t gap.hash key value c.args.seat.now _ c.value.result.now refl
+    puts_there eq place t gap.hash key value c.args.seat.now _ c.value.result.now refl refl
     (ap Some value_is ∙ sym (ap (λ o. option_map (λ p. p.1) o) all)) c.there.result c.there.ensures
 
 pub returns-in-Some-clause-fact : goal.returns-in-Some-clause-fact

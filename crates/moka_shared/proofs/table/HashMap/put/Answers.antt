@@ -1,4 +1,4 @@
-use Rattle.std.proofs.Common.{refl, subst, sym}
+use Rattle.std.proofs.Common.{◌∙◌, ap, refl, subst, sym}
 use Rattle.moka_shared.specs.Hashing.{hash_in, place_in}
 use Rattle.moka_shared.specs.Inserts.{CanPut, Puts}
 use Rattle.moka_shared.proofs.Inserted.{puts_drawn, stands_more}
@@ -52,8 +52,9 @@ returns-in-Ok-draw_for-clause-puts g c =
     (subst (λ k. CanPut eq hash place t gap.hash gap.passed gap.word c.in-Ok-draw_for.drawn.ticket k c.args.value.now old.front.log mid) (sym key_is) can) in
     subst (λ v. Puts eq place t gap.hash c.args.key.now v old c.put_on.new.seat c.put_on.result) value_is
     (subst (λ k. Puts eq place t gap.hash k c.in-Ok-clone.own_value old c.put_on.new.seat c.put_on.result) key_is
-    (puts_drawn eq place t gap.hash c.in-Ok.own_key c.in-Ok-clone.own_value old record { front = c.draw_for.new.front; hidden = old.hidden; mine = old.mine }
-    c.put_on.new.seat c.draw_for.ensures.goes_on.begins refl gap.passed c.in-Ok-draw_for.drawn.ticket drawn.late c.put_on.result
+    (puts_drawn eq place t gap.hash c.in-Ok.own_key c.in-Ok-clone.own_value old record { front = c.draw_for.new.front; hidden = old.hidden; drawn = c.draw_for.new.own; mine = old.mine }
+    c.put_on.new.seat c.draw_for.ensures.goes_on.begins refl gap.passed c.in-Ok-draw_for.drawn.ticket drawn.late
+    (ap (λ m. m.numbers) c.put_on.ensures.drawn ∙ c.in-Ok-draw_for.ensures.own) c.put_on.result
     (c.put_on.ensures.puts old.front.log own)))
 
 pub returns-in-Ok-draw_for-clause-fact : goal.returns-in-Ok-draw_for-clause-fact
