@@ -1,5 +1,5 @@
 -- What a draw of a ticket tells.
-use Rattle.std.proofs.Common.{◌≡◌, ◌≢◌, ℕ, ◌+◌, ◌-◌, ◌^◌, ◌<◌, ◌≤◌, Bool, List, [], ◌∷◌, Some, cond, inl, inr, refl, sym, ap, ◌∙◌, arith}
+use Rattle.std.proofs.Common.{◌≡◌, ◌≢◌, ℕ, ◌+◌, ◌-◌, ◌^◌, ◌<◌, ◌≤◌, Bool, List, [], ◌∷◌, Option, cond, inl, inr, refl, sym, ap, ◌∙◌, arith}
 use Rattle.std.proofs.lemmas.Bool.{cases_lt, eq-eqb}
 use mathlib.Core.List.{IsPrefix}
 use Rattle.moka_history.specs.declared.note.Note.{Note}
@@ -55,18 +55,18 @@ module _ {K V S : Type 0} (eq : K → K → Bool) (hash : S → K → ℕ) (plac
     sum_small = let most = last_small new door_seen.is_log in let is = last_seen in omega (arith, most, is)
 
   -- the log in which the pair was named
-  module _ (old new : List (Note K V S)) (x : IsLogOf eq hash place t old) (found ticket : ℕ) (key : K) (value : V)
-      (writes : Writes eq hash place 0 found (Announced ticket (Some (key, value))) old new) where
+  module _ (old new : List (Note K V S)) (x : IsLogOf eq hash place t old) (found ticket : ℕ) (pair : Option (K × V))
+      (writes : Writes eq hash place 0 found (Announced ticket pair) old new) where
     pub drawn_log : GoesOn eq hash place t old new
     drawn_log =
-        let begins = prefix_through old writes.log new writes.begins (Announced ticket (Some (key, value)) ∷ [], sym writes.more) in
+        let begins = prefix_through old writes.log new writes.begins (Announced ticket pair ∷ [], sym writes.more) in
         record {
           begins = begins;
           is_log = record { kept = writes.kept; opened = opened_more t.segments t.size t.hasher old new x.opened begins; some = x.some };
         }
 
-    pub pair_named : (state_of new).pairs ticket ≡ Some (key, value)
+    pub pair_named : (state_of new).pairs ticket ≡ pair
     pair_named =
         ap (λ l. (state_of l).pairs ticket) writes.more
-        ∙ ap (λ s. s.pairs ticket) (state_more unopened writes.log (Announced ticket (Some (key, value))))
-        ∙ ap (λ b. cond b (Some (key, value)) ((state_of writes.log).pairs ticket)) (eq-eqb ticket ticket refl)
+        ∙ ap (λ s. s.pairs ticket) (state_more unopened writes.log (Announced ticket pair))
+        ∙ ap (λ b. cond b pair ((state_of writes.log).pairs ticket)) (eq-eqb ticket ticket refl)

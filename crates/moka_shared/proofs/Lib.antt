@@ -14,6 +14,7 @@ pub mod Tested
 pub mod Shown
 pub mod Staying
 pub mod Drawing
+pub mod Exchanging
 pub mod Putting
-pub mod Inserted
+pub mod Since
 pub mod Filled

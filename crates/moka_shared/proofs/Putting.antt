@@ -1,246 +1,155 @@
--- An insert's exchange may be made, and what it adds.
-use Rattle.std.proofs.Common.{◌≡◌, ◌≢◌, ℕ, ◌+◌, ◌*◌, ◌^◌, ◌<◌, ◌≤◌, ◌==◌, Bool, true, false, cond, List, [], ◌∷◌, ◌++◌, length, map, Option, Some, None, suc, inl, inr, refl, sym, ap, subst, ◌∙◌, arith}
+-- A pair that is put, and a tombstone, are changes of the key.
+use Rattle.std.proofs.Common.{◌≡◌, ℕ, ◌^◌, ◌<◌, ◌≤◌, ◌==◌, Bool, true, false, List, Option, Some, None, inl, inr, refl, sym, ap, subst, ◌∙◌, arith}
 use Rattle.std.proofs.lemmas.Bool.{cases_lt, eq-eqb}
-use Rattle.std.specs.List.{slice_get}
 use Rattle.std.specs.Option.{option_map, option_map_or}
 use mathlib.Core.List.{IsPrefix}
-use Rattle.moka_hist.specs.Finite.{times}
 use Rattle.moka_words.specs.declared.words.Word.{Word}
 use Rattle.moka_words.specs.declared.words.Word.TheVariants.{Unset, Empty, Live, Tomb, SealedEmpty, SealedLive, SealedTomb}
 use Rattle.moka_words.specs.Words.{node_of, stored_in, word_at}
 use Rattle.moka_words.specs.Arrays.{bucket_at}
-use Rattle.moka_growth.specs.declared.kinds.CallKind.TheVariants as kind
-use Rattle.moka_growth.specs.Calls.{Call, Change}
+use Rattle.moka_words.proofs.Laying.{stored_is_key}
 use Rattle.moka_growth.specs.Fits.{IsChange, IsOpen}
 use Rattle.moka_pairs.specs.Keys.{Agrees, own_by, own_for}
 use Rattle.moka_pairs.specs.Pairs.{pair_at}
 use Rattle.moka_pairs.proofs.Divided.{segment_grows, segment_has}
 use Rattle.moka_history.specs.declared.note.Note.{Note}
-use Rattle.moka_history.specs.declared.note.Note.TheVariants.{Changed}
-use Rattle.moka_history.specs.Entries.{Entry}
-use Rattle.moka_history.specs.States.{Ticket, words_in}
-use Rattle.moka_history.specs.Logs.{entries_of, entry_of, entry_with, state_of}
-use Rattle.moka_history.specs.Cells.{cells_of, number_of}
-use Rattle.moka_history.specs.Moving.{HoldsThere}
-use Rattle.moka_history.specs.Rules.{IsFront, made_on}
-use Rattle.moka_history.specs.Keeping.{Comes, IsDivided, IsSmall}
-use Rattle.moka_history.proofs.Folds.{entries_begin}
-use Rattle.moka_history.proofs.Fronts.{cells_now, entry_between, good_now, lasts_now, segments_are, words_have_pairs}
-use Rattle.moka_history.proofs.Lists.{map_more, no_item, one_item, prefix_through, times_more}
-use Rattle.moka_history.proofs.Numbers.{numbers_tell}
-use Rattle.moka_shared.specs.declared.asked.Exchange.{Exchange}
-use Rattle.moka_shared.specs.Asks.{exchange_note}
-use Rattle.moka_shared.specs.Inserts.{Adds, entry_put}
-use Rattle.moka_shared.specs.Probing.{EndsAt, GoesOn, HasProbed, IsLogOf, own_keys, own_words}
-use Rattle.moka_shared.specs.Steps.{MayExchange, Sees, Spends}
+use Rattle.moka_history.specs.Logs.{entry_with, state_of}
+use Rattle.moka_history.specs.Rules.{IsFront}
+use Rattle.moka_history.specs.Keeping.{IsDivided, IsSmall}
+use Rattle.moka_history.proofs.Fronts.{good_now, lasts_now, words_have_pairs}
+use Rattle.moka_history.proofs.Lists.{no_item, one_item}
+use Rattle.moka_shared.specs.Changes.{CanChange, entry_put, entry_taken}
+use Rattle.moka_shared.specs.Probing.{EndsAt, IsLogOf, own_keys, own_words}
 use Rattle.moka_shared.specs.Tables.{Table}
-use Rattle.moka_shared.proofs.Loading.{found_is, kept_as, opened_more, opened_some, row_is}
-use Rattle.moka_shared.proofs.Probed.{known_is, long, own_at, probed_lasts}
+use Rattle.moka_shared.proofs.Loading.{kept_as, opened_some}
+use Rattle.moka_shared.proofs.Probed.{known_is, own_at, pair}
 
-no_node : {n : ℕ} → Some n ≡ None → ⊥
+no_node : {n : ℕ} → None ≡ Some n → ⊥
 no_node e = cc
-
--- an entry that comes last is one of those made on its ticket
-made_last : {K V : Type 0} (es : List (Entry K V)) (e : Entry K V) → 1 ≤ made_on e.ticket (es ++ e ∷ [])
-made_last es e =
-    let last = times_more e.ticket (map (λ x. x.ticket) es) e.ticket in
-    let same = eq-eqb e.ticket e.ticket refl in
-    let all = ap (times e.ticket) (map_more (λ x. x.ticket) es e) in
-    let more = ap (λ b. cond b (times e.ticket (map (λ x. x.ticket) es) + 1) (times e.ticket (map (λ x. x.ticket) es))) same in
-    let is : made_on e.ticket (es ++ e ∷ []) ≡ times e.ticket (map (λ x. x.ticket) es) + 1 = all ∙ (last ∙ more) in
-    omega (arith, is)
 
 module _ {K V S : Type 0} (eq : K → K → Bool) (hash : S → K → ℕ) (place : S → ℕ → K → ℕ) (divided : IsDivided eq hash place) (t : Table S) (key : K)
     (below : place t.hasher t.segments key < t.segments) (h : ℕ) (h_is : h ≡ hash t.hasher key) where
-  -- a probe that ended after a front, and a ticket that the log names the pair under
+  -- a probe that ended after a front, and a log that goes on from there
   module _ (front log : List (Note K V S)) (y : IsLogOf eq hash place t front) (x : IsLogOf eq hash place t log) (begins : IsPrefix front log)
-      (passed : ℕ) (from : Word) (ends : EndsAt eq place t key h front passed from) (free : stored_in from ≡ None)
-      (ticket : ℕ) (value : V) (named : (state_of log).pairs ticket ≡ Some (key, value)) where
+      (passed : ℕ) (from : Word) (ends : EndsAt eq place t key h front passed from) where
     abbrev index : ℕ
     index = bucket_at t.size h passed
-
-    abbrev bucket : ℕ
-    bucket = 1 + (own_at place t key * t.size + index)
 
     is_front : IsFront front log
     is_front = record { some = opened_some t.segments t.size t.hasher front y.opened; begins = begins }
 
-    still : HasProbed eq place t key h log passed
-    still = probed_lasts eq hash place divided t key below h h_is front log y x begins passed ends.within ends.probed
+    more_pairs : Agrees (state_of log).pairs (state_of front).pairs
+    more_pairs = (lasts_now eq hash place log (kept_as eq hash place t log x) front is_front).pairs
 
     -- the log knows the keys that the front knew
     more_keys : Agrees (own_keys place t key log) (own_keys place t key front)
-    more_keys = segment_grows (λ k. place t.hasher t.segments k == (own_at place t key)) (state_of log).pairs (state_of front).pairs
-        (lasts_now eq hash place log (kept_as eq hash place t log x) front is_front).pairs
+    more_keys = segment_grows (λ k. place t.hasher t.segments k == (own_at place t key)) (state_of log).pairs (state_of front).pairs more_pairs
 
-    -- the node of the ticket has the key
-    own_ticket : (keys : ℕ → Option K) → Agrees keys (own_keys place t key log) → own_by eq keys key ticket ≡ true
-    own_ticket keys agrees =
-        ap (λ o. option_map_or (eq key) o false)
-        (agrees ticket key (segment_has (λ k. place t.hasher t.segments k == (own_at place t key)) (state_of log).pairs ticket (key, value) named (eq-eqb (own_at place t key) (own_at place t key) refl)))
-        ∙ divided.laws.refl key
+    from_small : IsSmall from
+    from_small n at = (words_have_pairs eq hash place front (kept_as eq hash place t front y) (own_at place t key) below index n (ap node_of ends.there ∙ at)).3
 
-    -- and so has the node of a word that was the key's
+    -- the node of a word that was the key's has the key
     own_still : (n : ℕ) → node_of (word_at (own_words place t key front) index) ≡ Some n → own_by eq (own_keys place t key front) key n ≡ true →
         (keys : ℕ → Option K) → Agrees keys (own_keys place t key log) → own_by eq keys key n ≡ true
     own_still n at own keys agrees =
         let known = known_is eq hash place divided t key below h h_is front y index n at in
         ap (λ o. option_map_or (eq key) o false) (agrees n _ (more_keys n _ known)) ∙ (sym (ap (λ o. option_map_or (eq key) o false) known) ∙ own)
 
-    change : (keys : ℕ → Option K) → Agrees keys (own_keys place t key log) → IsChange (own_for eq keys (Some key)) from (Live ticket)
-    change keys agrees = by from ends.there ends.opens free
-      where
-        by : (w : Word) → word_at (own_words place t key front) index ≡ w → IsOpen (own_by eq (own_keys place t key front) key) w → stored_in w ≡ None →
-            IsChange (own_for eq keys (Some key)) w (Live ticket)
-        by Unset e o f = absurd o
-        by Empty e o f = own_ticket keys agrees
-        by (Live n) e o f = absurd (no_node f)
-        by (Tomb n) e o f = (own_still n (ap node_of e) o keys agrees, own_ticket keys agrees)
-        by SealedEmpty e o f = absurd o
-        by (SealedLive n) e o f = absurd o
-        by (SealedTomb n) e o f = absurd o
+    -- what the word stored has the pair that it had
+    former_is : (pairs : ℕ → Option (K × V)) → Agrees pairs (state_of log).pairs → (o : Option ℕ) → stored_in from ≡ o →
+        pair_at pairs (stored_in from) ≡ pair_at (state_of front).pairs (stored_in from)
+    former_is pairs agrees None none = ap (pair_at pairs) none ∙ sym (ap (pair_at (state_of front).pairs) none)
+    former_is pairs agrees (Some n) some =
+        let there = pair eq hash place divided t key below h h_is front y index n (ap node_of ends.there ∙ stored_is_key from n some) in
+        ap (pair_at pairs) some ∙ (agrees n there.0 (more_pairs n there.0 there.1) ∙ sym (ap (pair_at (state_of front).pairs) some ∙ there.1))
 
-    abbrev putting : Call
-    putting = record { kind = kind.Insert; hash = h; spent = false; point = Change (suc (own_at place t key)) t.size passed from (Live ticket) }
+    -- a pair that the log names under a ticket
+    module _ (ticket : ℕ) (value : V) (named : (state_of log).pairs ticket ≡ Some (key, value)) where
+      own_ticket : (keys : ℕ → Option K) → Agrees keys (own_keys place t key log) → own_by eq keys key ticket ≡ true
+      own_ticket keys agrees =
+          ap (λ o. option_map_or (eq key) o false)
+          (agrees ticket key (segment_has (λ k. place t.hasher t.segments k == (own_at place t key)) (state_of log).pairs ticket (key, value) named (eq-eqb (own_at place t key) (own_at place t key) refl)))
+          ∙ divided.laws.refl key
 
-    comes : Comes eq (hash t.hasher) (place t.hasher t.segments) (state_of log) key putting (suc (own_at place t key)) t.size passed from (Live ticket)
-    comes = record {
-      within = subst (λ m. (own_at place t key) < m) (sym (segments_are eq hash place log (kept_as eq hash place t log x))) below;
-      hashed = h_is;
-      fits = λ keys agrees. (
-        record {
-          rooted = record { place = 0; before = omega arith; there = refl };
-          size_is = sym (long eq hash place divided t key below h h_is log x);
-          passed_are = still keys agrees;
-          more = ends.within;
-        },
-        change keys agrees,
-      );
-      comes = refl;
-    }
+      puts : (keys : ℕ → Option K) → Agrees keys (own_keys place t key log) → IsChange (own_for eq keys (Some key)) from (Live ticket)
+      puts keys agrees = by from ends.there ends.opens
+        where
+          by : (w : Word) → word_at (own_words place t key front) index ≡ w → IsOpen (own_by eq (own_keys place t key front) key) w →
+              IsChange (own_for eq keys (Some key)) w (Live ticket)
+          by Unset e o = absurd o
+          by Empty e o = own_ticket keys agrees
+          by (Live n) e o = (own_still n (ap node_of e) o keys agrees, own_ticket keys agrees)
+          by (Tomb n) e o = (own_still n (ap node_of e) o keys agrees, own_ticket keys agrees)
+          by SealedEmpty e o = absurd o
+          by (SealedLive n) e o = absurd o
+          by (SealedTomb n) e o = absurd o
 
-    pub from_small : IsSmall from
-    from_small n at = (words_have_pairs eq hash place front (kept_as eq hash place t front y) (own_at place t key) below index n (ap node_of ends.there ∙ at)).3
+      ticket_small : ticket ≤ 2 ^ 60
+      ticket_small =
+          let good = good_now eq hash place log (kept_as eq hash place t log x) in
+          elim (cases_lt (state_of log).last ticket) [
+            | inl less ↦ absurd (no_item (sym (good.drawn.pairs ticket less) ∙ named))
+            | inr more ↦ (let last = good.drawn.last in omega (arith, more, last))
+          ]
 
-    pub ticket_small : ticket ≤ 2 ^ 60
-    ticket_small =
-        let good = good_now eq hash place log (kept_as eq hash place t log x) in
-        elim (cases_lt (state_of log).last ticket) [
-          | inl less ↦ absurd (no_item (sym (good.drawn.pairs ticket less) ∙ named))
-          | inr more ↦ (let last = good.drawn.last in omega (arith, more, last))
-        ]
-
-    module _ (array at there from_number : ℕ) (array_is : array ≡ suc (own_at place t key)) (at_is : at ≡ index) (there_is : there ≡ bucket)
-        (from_is : from_number ≡ number_of from) (inside : index < t.size) where
-      abbrev asked : Exchange
-      asked = record { ticket = ticket; array = array; index = at; to = Live ticket }
-
-      pub may_put : (to_number : ℕ) → to_number ≡ number_of (Live ticket) → MayExchange eq hash place there from_number to_number asked log
-      may_put to_number to_is = record {
-        segments = t.segments;
-        size = t.size;
-        hasher = t.hasher;
-        opened = x.opened;
-        key = key;
-        call = putting;
-        length_is = t.size;
-        passed = passed;
-        word = from;
-        comes = subst (λ a. Comes eq (hash t.hasher) (place t.hasher t.segments) (state_of log) key putting a t.size passed from (Live ticket)) (sym array_is) comes;
-        small = from_small;
-        from_is = from_is;
-        to_is = to_is;
-        index_is = at_is;
-        there =
-            ap (λ a. slice_get ((state_of log).arrays a) at) array_is
-            ∙ (ap (λ i. slice_get ((state_of log).arrays (suc (own_at place t key))) i) at_is
-            ∙ (row_is eq hash place t log x (own_at place t key) index below inside ∙ ap Some (sym there_is)));
+      pub can_put : CanChange eq hash place t h passed from (Live ticket) ticket key
+          (entry_put ticket key value (pair_at (state_of front).pairs (stored_in from))) front log
+      can_put = record {
+        hashed = h_is;
+        was = y;
+        begins = begins;
+        ends = ends;
+        small = (from_small, λ n e. subst (λ m. m ≤ 2 ^ 60) (one_item e) ticket_small);
+        changes = puts;
+        is = λ pairs agrees.
+            let there = agrees ticket (key, value) named in
+            ap (option_map (λ p. entry_with pairs ticket from (Live ticket) p.0)) there
+            ∙ (ap (λ o. Some (record { ticket = ticket; key = key; put = option_map (λ p. p.1) o; former = pair_at pairs (stored_in from) })) there
+            ∙ ap (λ o. Some (entry_put ticket key value o)) (former_is pairs agrees (stored_in from) refl));
       }
 
-      -- what the exchange adds
-      module _ (new : List (Note K V S)) (spends : Spends eq hash place there from_number (exchange_note asked) log new) where
-        abbrev m : List (Note K V S)
-        m = spends.writes.log
+    -- a node that the word stores
+    module _ (n : ℕ) (stored : stored_in from ≡ Some n) (p : K × V) (named : (state_of front).pairs n ≡ Some p) where
+      takes : (keys : ℕ → Option K) → Agrees keys (own_keys place t key log) → IsChange (own_for eq keys (Some key)) from (Tomb n)
+      takes keys agrees = by from ends.there ends.opens stored
+        where
+          by : (w : Word) → word_at (own_words place t key front) index ≡ w → IsOpen (own_by eq (own_keys place t key front) key) w → stored_in w ≡ Some n →
+              IsChange (own_for eq keys (Some key)) w (Tomb n)
+          by Unset e o f = absurd o
+          by Empty e o f = absurd (no_node f)
+          by (Live m) e o f = (own_still m (ap node_of e) o keys agrees, one_item f)
+          by (Tomb m) e o f = absurd (no_node f)
+          by SealedEmpty e o f = absurd o
+          by (SealedLive m) e o f = absurd o
+          by (SealedTomb m) e o f = absurd o
 
-        m_log : IsLogOf eq hash place t m
-        m_log = record { kept = spends.writes.was_kept; opened = opened_more t.segments t.size t.hasher log m x.opened spends.writes.begins; some = x.some }
+      pub can_take : (ticket : ℕ) → CanChange eq hash place t h passed from (Tomb n) ticket key (entry_taken ticket p) front log
+      can_take ticket = record {
+        hashed = h_is;
+        was = y;
+        begins = begins;
+        ends = ends;
+        small = (from_small, λ m e. from_small m (stored_is_key from n stored ∙ e));
+        changes = takes;
+        is = λ pairs agrees.
+            let there = agrees n p (more_pairs n p named) in
+            ap (option_map (λ q. entry_with pairs ticket from (Tomb n) q.0)) there
+            ∙ ap (λ o. Some (record { ticket = ticket; key = p.0; put = None; former = o })) (ap (pair_at pairs) stored ∙ there);
+      }
 
-        m_front : IsFront log m
-        m_front = record { some = opened_some t.segments t.size t.hasher log x.opened; begins = spends.writes.begins }
-
-        pair_then : (state_of m).pairs ticket ≡ Some (key, value)
-        pair_then = (lasts_now eq hash place m (kept_as eq hash place t m m_log) log m_front).pairs ticket (key, value) named
-
-        abbrev word_then : Word
-        word_then = word_at (words_in (state_of m) (suc (own_at place t key))) index
-
-        small_then : IsSmall word_then
-        small_then n names = (words_have_pairs eq hash place m (kept_as eq hash place t m m_log) (own_at place t key) below index n names).3
-
-        held : HoldsThere bucket (number_of from) m
-        held = subst (λ k. HoldsThere k (number_of from) m) there_is (subst (λ n. HoldsThere there n m) from_is spends.writes.holds)
-
-        word_is : word_then ≡ from
-        word_is = numbers_tell word_then from small_then from_small
-            (sym (ap (λ c. c.0) (sym held ∙ ((cells_now eq hash place m (kept_as eq hash place t m m_log) (cells_of (state_of m)) refl).1 (suc (own_at place t key)) index
-            bucket (row_is eq hash place t m m_log (own_at place t key) index below inside)).1)))
-
-        is : entry_of {S = S} (state_of m) (Changed ticket (suc (own_at place t key)) index (Live ticket)) ≡ Some spends.entry
-        is = ap (λ a. entry_of {S = S} (state_of m) (Changed ticket a index (Live ticket))) (sym array_is)
-            ∙ (ap (λ i. entry_of {S = S} (state_of m) (Changed ticket array i (Live ticket))) (sym at_is) ∙ spends.is)
-
-        none : (w : Word) → stored_in w ≡ None → pair_at (state_of m).pairs (stored_in w) ≡ None
-        none w e = ap (λ o. pair_at (state_of m).pairs o) e
-
-        entry_is : spends.entry ≡ entry_put ticket key value
-        entry_is = one_item (sym is ∙
-            (ap (option_map (λ p. entry_with (state_of m).pairs ticket word_then (Live ticket) p.0)) pair_then
-            ∙ (ap (λ w. Some (entry_with (state_of m).pairs ticket w (Live ticket) key)) word_is ∙ (ap (λ w. Some (record {
-              ticket = ticket;
-              key = key;
-              put = option_map (λ p. p.1) ((state_of m).pairs ticket);
-              former = w;
-            })) (none from free) ∙ ap (λ o. Some (record { ticket = ticket; key = key; put = option_map (λ p. p.1) o; former = None })) pair_then))))
-
-        pub spent_log : GoesOn eq hash place t log new
-        spent_log =
-            let begins = prefix_through log m new spends.writes.begins (exchange_note asked ∷ [], sym spends.writes.more) in
-            record {
-              begins = begins;
-              is_log = record { kept = spends.writes.kept; opened = opened_more t.segments t.size t.hasher log new x.opened begins; some = x.some };
-            }
-
-        between : IsPrefix (entries_of log) (entries_of m)
-        between = entries_begin log m spends.writes.begins
-
-        pub adds_entry : Adds (entry_put ticket key value) log new
-        adds_entry =
-            let all : entries_of new ≡ (entries_of log ++ between.0) ++ entry_put ticket key value ∷ [] =
-            spends.entries ∙ (ap (λ e. entries_of m ++ e ∷ []) entry_is ∙ ap (λ es. es ++ entry_put ticket key value ∷ []) (sym between.1)) in
-            let once = (good_now eq hash place new (kept_as eq hash place t new spent_log.is_log)).drawn.once ticket in
-            let some : 1 ≤ made_on ticket (entries_of new) =
-            subst (λ es. 1 ≤ made_on ticket es) (sym all) (made_last (entries_of log ++ between.0) (entry_put ticket key value)) in
-            record { between = between.0; entries = all; once = omega (arith, once, some) }
-
-      -- what it met instead
-      module _ (new : List (Note K V S)) (found : ℕ) (sees : Sees eq hash place there found log new) (other : found ≢ from_number)
-          (own : ℕ) (away : slice_get (state_of new).cells own ≡ Some (Ticket ticket false)) where
-        seen : Sees eq hash place bucket found log new
-        seen = subst (λ k. Sees eq hash place k found log new) there_is sees
-
-        new_log : IsLogOf eq hash place t new
-        new_log = record { kept = sees.kept; opened = opened_more t.segments t.size t.hasher log new x.opened sees.begins; some = x.some }
-
-        front_new : IsFront front new
-        front_new = record { some = is_front.some; begins = prefix_through front log new begins sees.begins }
-
-        differs : word_at (words_in (state_of new) (suc (own_at place t key))) index ≢ word_at (words_in (state_of front) (suc (own_at place t key))) index
-        differs same = other (
-            found_is eq hash place t log new x (own_at place t key) index below inside found seen
-            ∙ (ap number_of (same ∙ ends.there) ∙ sym from_is)
-            )
-
-        pub met_entry : (e : Entry K V) × (slice_get (entries_of new) (length (entries_of front)) ≡ Some e) × (e.ticket ≢ ticket)
-        met_entry =
-            let (e, at_front, others) = entry_between eq hash place new (kept_as eq hash place t new new_log) front front_new (suc (own_at place t key)) index differs in
-            (e, at_front, others own ticket away)
+      -- the key of its pair is equal to the call's
+      pub is_own : eq key p.0 ≡ true
+      is_own = by from ends.there ends.opens stored
+        where
+          by : (w : Word) → word_at (own_words place t key front) index ≡ w → IsOpen (own_by eq (own_keys place t key front) key) w → stored_in w ≡ Some n → eq key p.0 ≡ true
+          by Unset e o f = absurd o
+          by Empty e o f = absurd (no_node f)
+          by (Live m) e o f =
+              let there = pair eq hash place divided t key below h h_is front y index m (ap node_of e) in
+              let known = known_is eq hash place divided t key below h h_is front y index m (ap node_of e) in
+              let same : p ≡ there.0 = one_item (sym named ∙ (ap (state_of front).pairs (sym (one_item f)) ∙ there.1)) in
+              ap (λ q. eq key q.0) same ∙ (sym (ap (λ o. option_map_or (eq key) o false) known) ∙ o)
+          by (Tomb m) e o f = absurd (no_node f)
+          by SealedEmpty e o f = absurd o
+          by (SealedLive m) e o f = absurd o
+          by (SealedTomb m) e o f = absurd o

@@ -6,4 +6,6 @@ pub mod Nodes
 pub mod Meeting
 pub mod Probing
 pub mod Looks
+pub mod Changes
 pub mod Inserts
+pub mod Removals

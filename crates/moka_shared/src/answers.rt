@@ -49,8 +49,21 @@ pub enum TryInsert<K, V> {
     Memory { key: K, value: V },
 }
 
-/// What became of a pair that was to be put.
+/// What a change of a pair that stands under a key answers, or its removal.
 #[derive(Drop, Debug)]
+pub enum TryChange<V> {
+    /// It is made. This value stood there.
+    Changed(V),
+    /// No value stands under the key.
+    Absent,
+    /// The pass has to be made again.
+    Again(Missed),
+    /// Memory is wanting.
+    Memory,
+}
+
+/// What became of what was to be put.
+#[derive(Drop)]
 pub(crate) enum Put<V> {
     /// It is put.
     Done,

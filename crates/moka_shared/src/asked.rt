@@ -10,7 +10,7 @@ pub(crate) struct Drawn<'a, K, V> {
 }
 
 /// The exchange of a bucket on a ticket.
-#[derive(Clone, Copy, Debug)]
+#[derive(Clone, Copy)]
 pub(crate) struct Exchange {
     pub(crate) ticket: u64,
     pub(crate) array: u64,

@@ -3,11 +3,13 @@ ghost use Rattle.std.specs.Prelude.{◌≡◌, ◌<◌, Bool, Some, None, IfOk, 
 ghost use Rattle.std.specs.Fn.{ComputesKey};
 ghost use mathlib.Core.List.{IsPrefix};
 ghost use Rattle.moka_words.specs.Words.{stored_in};
+ghost use Rattle.moka_pairs.specs.Pairs.{pair_at};
 ghost use Rattle.moka_history.specs.Entries.{IsLegal};
 ghost use Rattle.moka_history.specs.Logs.{entries_of, state_of};
 ghost use Rattle.moka_history.specs.declared.note.Note.{Note};
 ghost use Rattle.moka_shared.specs.Hashing.{hash_in, place_in, segment_of};
-ghost use Rattle.moka_shared.specs.Inserts.{AreMade, Answers, IsPresentSo, IsThere, Puts, StandsSo};
+ghost use Rattle.moka_shared.specs.Changes.{AreMade, Makes, Puts, entry_put};
+ghost use Rattle.moka_shared.specs.Inserts.{Answers, Inserts, IsPresentSo, StandsSo};
 ghost use Rattle.moka_shared.specs.Probing.{EndsAt, GoesOn, IsLogOf, ReadsAt};
 
 use crate::Fact;
@@ -16,23 +18,13 @@ use crate::book::Law;
 use crate::probe::Ended;
 use crate::put::Gap;
 use crate::seat::Seat;
+use crate::standing::Standing;
 use crate::table::HashMap;
 use crate::words::stored_in;
 use moka_history::Note;
-use moka_shelf::Shelf;
 use moka_values::Exact;
 use moka_words::Word;
 use std::hash::{BuildHasher, Hash};
-
-// A copy of the value, as an insert answers it.
-fn there<V: Exact>(value: &V) -> Put<V>
-    ensures { IsThere value.now result }
-{
-    match value.clone() {
-        Ok(copy) => Put::There(copy),
-        Err(_) => Put::Memory,
-    }
-}
 
 impl<K: Eq + Hash + Exact + Drop, V: Exact + Drop, S: BuildHasher + Drop, P: Fact<K, V>> HashMap<
     K,
@@ -81,7 +73,7 @@ impl<K: Eq + Hash + Exact + Drop, V: Exact + Drop, S: BuildHasher + Drop, P: Fac
         ensures made { AreMade seat.old.mine.numbers (entries_of seat.old.front.log)
             → AreMade seat.new.mine.numbers (entries_of seat.new.front.log) }
         ensures fact { StandsSo (P.holds key.now) result }
-        ensures puts { Puts K.eq (place_in S.BuildHasher S.Hasher.Hasher K.hash_input) self.now
+        ensures puts { Inserts K.eq (place_in S.BuildHasher S.Hasher.Hasher K.hash_input) self.now
             hash key.now value.now seat.old seat.new result }
     {
         seat.front.learn(&self.start);
@@ -111,7 +103,7 @@ impl<K: Eq + Hash + Exact + Drop, V: Exact + Drop, S: BuildHasher + Drop, P: Fac
             (place_in S.BuildHasher S.Hasher.Hasher K.hash_input) self.now
             seat.old.front.log seat.new.front.log }
         ensures fact { StandsSo (P.holds key.now) result }
-        ensures puts { Puts K.eq (place_in S.BuildHasher S.Hasher.Hasher K.hash_input) self.now
+        ensures puts { Inserts K.eq (place_in S.BuildHasher S.Hasher.Hasher K.hash_input) self.now
             hash key.now value.now seat.old seat.new result }
     {
         let ended = self.seek(&mut seat.front, &mut seat.hidden, hash, eq);
@@ -144,7 +136,7 @@ impl<K: Eq + Hash + Exact + Drop, V: Exact + Drop, S: BuildHasher + Drop, P: Fac
             (place_in S.BuildHasher S.Hasher.Hasher K.hash_input) self.now
             seat.old.front.log seat.new.front.log }
         ensures fact { StandsSo (P.holds key.now) result }
-        ensures puts { Puts K.eq (place_in S.BuildHasher S.Hasher.Hasher K.hash_input) self.now
+        ensures puts { Inserts K.eq (place_in S.BuildHasher S.Hasher.Hasher K.hash_input) self.now
             gap.now.hash key.now value.now seat.old seat.new result }
     {
         match stored_in(gap.word) {
@@ -153,7 +145,7 @@ impl<K: Eq + Hash + Exact + Drop, V: Exact + Drop, S: BuildHasher + Drop, P: Fac
         }
     }
 
-    // A copy of the value of this node, under which the key stands already.
+    // Answers the value of this node, under which the key stands already.
     fn present(&self, seat: &mut Seat<K, V, S>, key: &K, gap: &Gap, number: u64) -> Put<V>
         requires seat { seat.old.front.book ≡ self.now.book }
         requires log { IsLogOf K.eq (hash_in S.BuildHasher S.Hasher.Hasher K.hash_input)
@@ -166,39 +158,36 @@ impl<K: Eq + Hash + Exact + Drop, V: Exact + Drop, S: BuildHasher + Drop, P: Fac
         requires stored { stored_in gap.now.word ≡ Some number }
         ensures front { seat.new.front ≡ seat.old.front }
         ensures fact { StandsSo (P.holds key.now) result }
-        ensures puts { (value : V) → Puts K.eq
-            (place_in S.BuildHasher S.Hasher.Hasher K.hash_input) self.now
-            gap.now.hash key.now value seat.old seat.new result }
+        ensures puts { (value : V) → Inserts K.eq (place_in S.BuildHasher S.Hasher.Hasher K.hash_input)
+            self.now gap.now.hash key.now value seat.old seat.new result }
     {
-        let _key = key;
-        let _gap = gap;
-        match self.shelf.shown(&mut seat.hidden, number) {
-            None => Put::Missed(Missed::NodeHidden(number)),
-            Some(node) => {
-                node.is_named(&seat.front);
-                there(node.value())
-            }
+        match self.standing(&seat.front, &mut seat.hidden, key, gap, number) {
+            Standing::Here(found) => Put::There(found),
+            Standing::Hidden => Put::Missed(Missed::NodeHidden(number)),
+            Standing::Memory => Put::Memory,
         }
     }
 
-    // Clones the pair, draws a ticket, and puts the pair on it.
-    fn put(&self, seat: &mut Seat<K, V, S>, key: &K, value: &V, gap: &Gap) -> Put<V>
+    // Clones the pair, draws a ticket, and puts the pair on it, in place of what stands there.
+    pub(crate) fn put(&self, seat: &mut Seat<K, V, S>, key: &K, value: &V, gap: &Gap) -> Put<V>
         requires seat { seat.old.front.book ≡ self.now.book }
         requires log { IsLogOf K.eq (hash_in S.BuildHasher S.Hasher.Hasher K.hash_input)
             (place_in S.BuildHasher S.Hasher.Hasher K.hash_input) self.now seat.old.front.log }
         requires hash { gap.now.hash ≡ hash_in S.BuildHasher S.Hasher.Hasher K.hash_input
             self.now.hasher key.now }
+        requires below { segment_of self.now.segments gap.now.hash < self.now.segments }
         requires ends { EndsAt K.eq (place_in S.BuildHasher S.Hasher.Hasher K.hash_input)
             self.now key.now gap.now.hash seat.old.front.log gap.now.passed gap.now.word }
-        requires free { stored_in gap.now.word ≡ None }
         requires fact { P.holds key.now value.now }
         ensures book { seat.new.front.book ≡ seat.old.front.book }
         ensures goes_on { GoesOn K.eq (hash_in S.BuildHasher S.Hasher.Hasher K.hash_input)
             (place_in S.BuildHasher S.Hasher.Hasher K.hash_input) self.now
             seat.old.front.log seat.new.front.log }
-        ensures fact { StandsSo (P.holds key.now) result }
         ensures puts { Puts K.eq (place_in S.BuildHasher S.Hasher.Hasher K.hash_input) self.now
-            gap.now.hash key.now value.now seat.old seat.new result }
+            gap.now.hash seat.old seat.new
+            (Makes seat.old seat.new (λ n. entry_put n key.now value.now
+            (pair_at (state_of seat.old.front.log).pairs (stored_in gap.now.word)))) (λ found. ⊥)
+            result }
     {
         let Ok(own_key) = key.clone() else {
             return Put::Memory;
@@ -206,7 +195,7 @@ impl<K: Eq + Hash + Exact + Drop, V: Exact + Drop, S: BuildHasher + Drop, P: Fac
         let Ok(own_value) = value.clone() else {
             return Put::Memory;
         };
-        match self.draw_for(&mut seat.front, &mut seat.drawn, key, value) {
+        match self.draw_for(&mut seat.front, &mut seat.drawn, Some((key, value))) {
             Ok(drawn) => self.put_on(seat, own_key, own_value, gap, drawn),
             Err(missed) => Put::Missed(missed),
         }

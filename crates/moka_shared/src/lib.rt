@@ -4,6 +4,7 @@
 mod answers;
 mod asked;
 mod book;
+mod change;
 mod fact;
 mod front;
 mod insert;
@@ -15,11 +16,12 @@ mod put;
 mod seat;
 mod seek;
 mod segments;
+mod standing;
 mod table;
 mod tickets;
 mod words;
 
-pub use answers::{Missed, TryGet, TryInsert};
+pub use answers::{Missed, TryChange, TryGet, TryInsert};
 pub use book::Law;
 pub use fact::{Anything, Fact};
 pub use node::Node;

@@ -7,7 +7,7 @@ ghost use Rattle.moka_pairs.specs.Pairs.{pair_at};
 ghost use Rattle.moka_history.specs.Entries.{IsLegal, map_after};
 ghost use Rattle.moka_history.specs.Logs.{entries_of, state_of};
 ghost use Rattle.moka_shared.specs.Hashing.{hash_in, place_in, segment_of};
-ghost use Rattle.moka_shared.specs.Inserts.{AreMade};
+ghost use Rattle.moka_shared.specs.Changes.{AreMade};
 ghost use Rattle.moka_shared.specs.Looks.{Asks, Finds, HasCause, IsSo};
 ghost use Rattle.moka_shared.specs.Probing.{Ends, IsLogOf, ReadsAt, ReadsNode, StopsAt};
 ghost use Rattle.moka_shared.specs.declared.answers.Missed.TheVariants.{Sealed};

@@ -4,7 +4,7 @@ ghost use Rattle.std.specs.Int.{IsNextPowerOfTwo, IsPowerOfTwo};
 ghost use mathlib.Core.List.{IsPrefix};
 ghost use Rattle.moka_history.specs.Entries.{IsLegal};
 ghost use Rattle.moka_history.specs.Logs.{entries_of};
-ghost use Rattle.moka_shared.specs.Inserts.{AreMade};
+ghost use Rattle.moka_shared.specs.Changes.{AreMade};
 ghost use Rattle.moka_shared.specs.Tables.{AreBuckets, names_of};
 
 use crate::Fact;

@@ -3,7 +3,7 @@
 use moka_words::Word;
 
 /// Where a probe for a key ended.
-#[derive(Clone, Copy, Debug)]
+#[derive(Clone, Copy)]
 pub(crate) enum Ended {
     /// At this word, past so many others: its bucket is free, or the key's.
     At { passed: usize, word: Word },
@@ -16,7 +16,7 @@ pub(crate) enum Ended {
 }
 
 /// What a probe met in a bucket.
-#[derive(Clone, Copy, Debug)]
+#[derive(Clone, Copy)]
 pub(crate) enum Met {
     /// The bucket is free, or of the key.
     Open,

@@ -1,12 +1,14 @@
-//! Puts a pair on a ticket, where a probe has ended.
+//! Changes on a ticket, where a probe has ended.
 ghost use Rattle.std.specs.Prelude.{◌≡◌, ◌<◌, ◌≤◌, ◌+◌, ◌^◌, ◌∷◌, Some, None, IfOk, IfErr, OnOk, List};
 ghost use mathlib.Core.List.{IsPrefix};
-ghost use Rattle.moka_words.specs.Words.{stored_in};
+ghost use Rattle.moka_words.specs.declared.words.Word.TheVariants.{Live};
+ghost use Rattle.moka_history.specs.Entries.{Entry};
 ghost use Rattle.moka_history.specs.Logs.{entries_of, state_of};
 ghost use Rattle.moka_history.specs.Rules.{made_on};
 ghost use Rattle.moka_history.specs.declared.note.Note.{Note};
 ghost use Rattle.moka_shared.specs.Hashing.{hash_in, place_in};
-ghost use Rattle.moka_shared.specs.Inserts.{Adds, CanPut, IsDrawnFor, IsMet, IsUndrawn, PutsOn, StandsSo, entry_put};
+ghost use Rattle.moka_shared.specs.Asks.{pair_of};
+ghost use Rattle.moka_shared.specs.Changes.{Adds, CanChange, IsDrawnFor, IsMet, IsUndrawn, PutsOn};
 ghost use Rattle.moka_shared.specs.Probing.{GoesOn, IsLogOf};
 ghost use Rattle.moka_shared.specs.Steps.{Pens};
 
@@ -31,8 +33,8 @@ use std::hash::{BuildHasher, Hash};
 /// The last ticket that can be drawn.
 const LAST: u64 = 1 << 60;
 
-/// Where a probe under a hash ended, past so many others: at a word that stores nothing.
-#[derive(Clone, Copy, Debug)]
+/// Where a probe under a hash ended, past so many others, and at which word.
+#[derive(Clone, Copy)]
 pub(crate) struct Gap {
     pub(crate) hash: u64,
     pub(crate) passed: usize,
@@ -62,13 +64,12 @@ impl<K: Eq + Hash, V, S: BuildHasher, P: Fact<K, V>> HashMap<K, V, S, P> {
         look(front, &self.door)
     }
 
-    /// Draws the next ticket, under which the history then names the pair.
-    pub(crate) fn draw_for(
+    /// Draws the next ticket, under which the history then names the pair; none of a removal.
+    pub(crate) fn draw_for<'a>(
         &self,
         front: &mut Seen<Note<K, V, S>, u64, Law>,
         own: &mut Tag,
-        key: &K,
-        value: &V,
+        pair: Option<(&'a K, &'a V)>,
     ) -> Result<Ticketed, Missed>
         requires book { front.old.book ≡ self.now.book }
         requires log { IsLogOf K.eq (hash_in S.BuildHasher S.Hasher.Hasher K.hash_input)
@@ -78,7 +79,7 @@ impl<K: Eq + Hash, V, S: BuildHasher, P: Fact<K, V>> HashMap<K, V, S, P> {
             (place_in S.BuildHasher S.Hasher.Hasher K.hash_input) self.now
             front.old.log front.new.log }
         ensures drawn { IfOk result (λ d. (d.pen.book ≡ front.new.book)
-            × IsDrawnFor key.now value.now d.ticket d.pen.nib front.old.log front.new.log) }
+            × IsDrawnFor (pair_of pair.entry) d.ticket d.pen.nib front.old.log front.new.log) }
         ensures own { IfOk result (λ d. own.new.numbers ≡ d.ticket ∷ own.old.numbers) }
         ensures missed { IfErr result (IsUndrawn front.old.log front.new.log) }
         ensures stays { IfErr result (λ missed. own.new ≡ own.old) }
@@ -89,10 +90,7 @@ impl<K: Eq + Hash, V, S: BuildHasher, P: Fact<K, V>> HashMap<K, V, S, P> {
             return Err(Missed::Spent);
         }
         let ticket = first + (drawn + 1);
-        let asked = Drawn {
-            ticket,
-            pair: Some((key, value)),
-        };
+        let asked = Drawn { ticket, pair };
         match draw(front, own, &self.door, drawn, &asked) {
             Ok(pen) => Ok(Ticketed { ticket, pen }),
             Err(found) => Err(Missed::Ticket(first + found)),
@@ -118,30 +116,64 @@ impl<K: Eq + Hash, V, S: BuildHasher, P: Fact<K, V>> HashMap<K, V, S, P> {
         requires log { IsLogOf K.eq (hash_in S.BuildHasher S.Hasher.Hasher K.hash_input)
             (place_in S.BuildHasher S.Hasher.Hasher K.hash_input) self.now seat.old.front.log }
         requires fact { P.holds key value }
-        requires can { (found : List (Note K V S)) × CanPut K.eq
+        requires named { (state_of seat.old.front.log).pairs drawn.ticket ≡ Some (key, value) }
+        requires can { (key : K) × (e : Entry K V) × (found : List (Note K V S)) × CanChange K.eq
             (hash_in S.BuildHasher S.Hasher.Hasher K.hash_input)
             (place_in S.BuildHasher S.Hasher.Hasher K.hash_input) self.now gap.now.hash
-            gap.now.passed gap.now.word drawn.ticket key value found seat.old.front.log }
+            gap.now.passed gap.now.word (Live drawn.ticket) drawn.ticket key e found seat.old.front.log }
         ensures book { seat.new.front.book ≡ seat.old.front.book }
         ensures hidden { seat.new.hidden ≡ seat.old.hidden }
         ensures drawn { seat.new.drawn ≡ seat.old.drawn }
         ensures goes_on { GoesOn K.eq (hash_in S.BuildHasher S.Hasher.Hasher K.hash_input)
             (place_in S.BuildHasher S.Hasher.Hasher K.hash_input) self.now
             seat.old.front.log seat.new.front.log }
-        ensures absent { StandsSo (λ value. ⊥) result }
-        ensures puts { (found : List (Note K V S)) → CanPut K.eq
+        ensures puts { (key : K) (e : Entry K V) (found : List (Note K V S)) → CanChange K.eq
             (hash_in S.BuildHasher S.Hasher.Hasher K.hash_input)
             (place_in S.BuildHasher S.Hasher.Hasher K.hash_input) self.now gap.now.hash
-            gap.now.passed gap.now.word drawn.ticket key value found seat.old.front.log
-            → PutsOn self.now gap.now.hash gap.now.passed drawn.ticket key value found seat.old
-            seat.new result }
+            gap.now.passed gap.now.word (Live drawn.ticket) drawn.ticket key e found seat.old.front.log
+            → PutsOn self.now gap.now.hash gap.now.passed drawn.ticket e found seat.old seat.new
+            result }
     {
-        let Ticketed { ticket, mut pen } = drawn;
+        let ticket = drawn.ticket;
         let node = Node::new(key, value, ticket, &seat.front);
         if self.shelf.set(ticket, node).is_err() {
             return Put::Memory;
         }
-        match self.exchange_on(&mut seat.front, ticket, &mut pen, gap) {
+        self.change_on(seat, gap, Word::Live(ticket), drawn)
+    }
+
+    /// Exchanges the word for this one, on the ticket.
+    pub(crate) fn change_on(
+        &self,
+        seat: &mut Seat<K, V, S>,
+        gap: &Gap,
+        to: Word,
+        drawn: Ticketed,
+    ) -> Put<V>
+        requires book { seat.old.front.book ≡ self.now.book }
+        requires pen { (drawn.pen.book ≡ seat.old.front.book)
+            × Pens drawn.ticket drawn.pen.nib seat.old.front.log }
+        requires log { IsLogOf K.eq (hash_in S.BuildHasher S.Hasher.Hasher K.hash_input)
+            (place_in S.BuildHasher S.Hasher.Hasher K.hash_input) self.now seat.old.front.log }
+        requires can { (key : K) × (e : Entry K V) × (found : List (Note K V S)) × CanChange K.eq
+            (hash_in S.BuildHasher S.Hasher.Hasher K.hash_input)
+            (place_in S.BuildHasher S.Hasher.Hasher K.hash_input) self.now gap.now.hash
+            gap.now.passed gap.now.word to drawn.ticket key e found seat.old.front.log }
+        ensures book { seat.new.front.book ≡ seat.old.front.book }
+        ensures hidden { seat.new.hidden ≡ seat.old.hidden }
+        ensures drawn { seat.new.drawn ≡ seat.old.drawn }
+        ensures goes_on { GoesOn K.eq (hash_in S.BuildHasher S.Hasher.Hasher K.hash_input)
+            (place_in S.BuildHasher S.Hasher.Hasher K.hash_input) self.now
+            seat.old.front.log seat.new.front.log }
+        ensures puts { (key : K) (e : Entry K V) (found : List (Note K V S)) → CanChange K.eq
+            (hash_in S.BuildHasher S.Hasher.Hasher K.hash_input)
+            (place_in S.BuildHasher S.Hasher.Hasher K.hash_input) self.now gap.now.hash
+            gap.now.passed gap.now.word to drawn.ticket key e found seat.old.front.log
+            → PutsOn self.now gap.now.hash gap.now.passed drawn.ticket e found seat.old seat.new
+            result }
+    {
+        let Ticketed { ticket, mut pen } = drawn;
+        match self.exchange_on(&mut seat.front, ticket, &mut pen, gap, to) {
             Ok(()) => {
                 seat.mine = with_ticket(ticket, &seat.mine);
                 Put::Done
@@ -150,35 +182,37 @@ impl<K: Eq + Hash, V, S: BuildHasher, P: Fact<K, V>> HashMap<K, V, S, P> {
         }
     }
 
-    // Exchanges the word for the live one of the ticket, on the ticket. Answers the word that it met
-    // instead.
+    // Exchanges the word for this one, on the ticket. Answers the word that it met instead.
     fn exchange_on(
         &self,
         front: &mut Seen<Note<K, V, S>, u64, Law>,
         ticket: u64,
         pen: &mut Pen,
         gap: &Gap,
+        to: Word,
     ) -> Result<(), Word>
         requires book { front.old.book ≡ self.now.book }
         requires pen { (pen.old.book ≡ front.old.book)
             × Pens ticket pen.old.nib front.old.log }
         requires log { IsLogOf K.eq (hash_in S.BuildHasher S.Hasher.Hasher K.hash_input)
             (place_in S.BuildHasher S.Hasher.Hasher K.hash_input) self.now front.old.log }
-        requires can { (key : K) × (value : V) × (found : List (Note K V S)) × CanPut K.eq
+        requires can { (key : K) × (e : Entry K V) × (found : List (Note K V S)) × CanChange K.eq
             (hash_in S.BuildHasher S.Hasher.Hasher K.hash_input)
             (place_in S.BuildHasher S.Hasher.Hasher K.hash_input) self.now gap.now.hash
-            gap.now.passed gap.now.word ticket key value found front.old.log }
+            gap.now.passed gap.now.word to ticket key e found front.old.log }
         ensures book { front.new.book ≡ front.old.book }
         ensures goes_on { GoesOn K.eq (hash_in S.BuildHasher S.Hasher.Hasher K.hash_input)
             (place_in S.BuildHasher S.Hasher.Hasher K.hash_input) self.now
             front.old.log front.new.log }
-        ensures done { OnOk result ((key : K) (value : V)
-            → (state_of front.old.log).pairs ticket ≡ Some (key, value)
-            → Adds (entry_put ticket key value) front.old.log front.new.log) }
-        ensures met { IfErr result (λ word. (key : K) (value : V) (found : List (Note K V S))
-            → CanPut K.eq (hash_in S.BuildHasher S.Hasher.Hasher K.hash_input)
+        ensures done { OnOk result ((key : K) (e : Entry K V) (found : List (Note K V S))
+            → CanChange K.eq (hash_in S.BuildHasher S.Hasher.Hasher K.hash_input)
             (place_in S.BuildHasher S.Hasher.Hasher K.hash_input) self.now gap.now.hash
-            gap.now.passed gap.now.word ticket key value found front.old.log
+            gap.now.passed gap.now.word to ticket key e found front.old.log
+            → Adds e front.old.log front.new.log) }
+        ensures met { IfErr result (λ word. (key : K) (e : Entry K V) (found : List (Note K V S))
+            → CanChange K.eq (hash_in S.BuildHasher S.Hasher.Hasher K.hash_input)
+            (place_in S.BuildHasher S.Hasher.Hasher K.hash_input) self.now gap.now.hash
+            gap.now.passed gap.now.word to ticket key e found front.old.log
             → IsMet self.now gap.now.hash gap.now.passed ticket found word front.new.log) }
         ensures none { IfErr result (λ word. made_on ticket (entries_of front.new.log) ≡ 0) }
     {
@@ -186,7 +220,6 @@ impl<K: Eq + Hash, V, S: BuildHasher, P: Fact<K, V>> HashMap<K, V, S, P> {
         let index = bucket_at(self.size, gap.hash, gap.passed);
         let at = position(self.segments, self.size, segment, index);
         let bucket = &self.buckets[at];
-        let to = Word::Live(ticket);
         let asked = Exchange {
             ticket,
             array: segment as u64 + 1,

@@ -8,6 +8,8 @@ mod hashers;
 #[cfg(test)]
 mod memory;
 #[cfg(test)]
+mod removals;
+#[cfg(test)]
 mod seats;
 #[cfg(test)]
 mod sizes;

@@ -31,5 +31,11 @@ fn a_pair_that_came_back_is_put_by_the_next_call(rt: HostRuntime) -> Result<(), 
     for key in 0..64u64 {
         assert_eq!(rt; caller.value_of(key), Some(key));
     }
+    for key in 0..64u64 {
+        if caller.replaced(key, 100) != Some(key) {
+            assert_eq!(rt; caller.value_of(key), Some(key));
+            assert_eq!(rt; caller.replaced(key, 100), Some(key));
+        }
+    }
     Ok(())
 }

@@ -10,9 +10,6 @@ use std::test::*;
 use std::thread;
 use std::thread::Threads;
 
-/// How many keys each thread puts.
-const KEYS: u64 = 512;
-
 // Puts the pair, however often the pass has to be made again. Tells whether this call put it.
 fn puts<R: Wait>(
     rt: &R,
@@ -31,10 +28,10 @@ fn puts<R: Wait>(
 }
 
 // Puts so many keys from this one on, and tells how many of them this thread put.
-fn puts_from<R: Wait>(rt: &R, table: &Table, from: u64) -> u64 {
+fn puts_from<R: Wait>(rt: &R, table: &Table, from: u64, keys: u64) -> u64 {
     let mut caller = Caller::new(table);
     let mut count = 0u64;
-    for number in 0..KEYS {
+    for number in 0..keys {
         if puts(rt, &mut caller, from.wrapping_add(number)) {
             count = count.wrapping_add(1);
         }
@@ -42,17 +39,30 @@ fn puts_from<R: Wait>(rt: &R, table: &Table, from: u64) -> u64 {
     count
 }
 
-// Four threads put their keys, each from its own first one on. Tells how many pairs they put.
-fn put_by_four<R: Threads + Wait + Sync>(rt: &R, table: &Table, firsts: [u64; 4]) -> u64 {
+// Four threads put so many keys each, from its own first one on. Tells how many pairs they put.
+fn put_by_four<R: Threads + Wait + Sync>(
+    rt: &R,
+    table: &Table,
+    firsts: [u64; 4],
+    keys: u64,
+) -> u64 {
     let [a, b, c, d] = firsts;
     let (left, right) = thread::join(
         rt,
         || {
-            let (x, y) = thread::join(rt, || puts_from(rt, table, a), || puts_from(rt, table, b));
+            let (x, y) = thread::join(
+                rt,
+                || puts_from(rt, table, a, keys),
+                || puts_from(rt, table, b, keys),
+            );
             x.wrapping_add(y)
         },
         || {
-            let (x, y) = thread::join(rt, || puts_from(rt, table, c), || puts_from(rt, table, d));
+            let (x, y) = thread::join(
+                rt,
+                || puts_from(rt, table, c, keys),
+                || puts_from(rt, table, d, keys),
+            );
             x.wrapping_add(y)
         },
     );
@@ -61,10 +71,13 @@ fn put_by_four<R: Threads + Wait + Sync>(rt: &R, table: &Table, firsts: [u64; 4]
 
 #[test]
 fn what_four_threads_put_all_find(rt: HostRuntime) -> Result<(), Fail> {
-    let table: Table = HashMap::with_capacity(rt.alloc(), 4096, BuildHasherDefault::new())?;
-    assert_eq!(rt; put_by_four(&rt, &table, [0, 512, 1024, 1536]), 2048);
+    let table: Table = HashMap::with_capacity(rt.alloc(), 40_000, BuildHasherDefault::new())?;
+    assert_eq!(rt;
+        put_by_four(&rt, &table, [0, 10_000, 20_000, 30_000], 10_000),
+        40_000
+    );
     let mut caller = Caller::new(&table);
-    for key in 0..2048u64 {
+    for key in 0..40_000u64 {
         assert_eq!(rt; caller.value_of(key), Some(key));
     }
     Ok(())
@@ -73,7 +86,7 @@ fn what_four_threads_put_all_find(rt: HostRuntime) -> Result<(), Fail> {
 #[test]
 fn a_key_of_four_threads_is_put_once(rt: HostRuntime) -> Result<(), Fail> {
     let table: Table = HashMap::with_capacity(rt.alloc(), 1024, BuildHasherDefault::new())?;
-    assert_eq!(rt; put_by_four(&rt, &table, [0, 0, 0, 0]), 512);
+    assert_eq!(rt; put_by_four(&rt, &table, [0, 0, 0, 0], 512), 512);
     let mut caller = Caller::new(&table);
     for key in 0..512u64 {
         assert_eq!(rt; caller.value_of(key), Some(key));

@@ -1,4 +1,5 @@
 use Rattle.std.proofs.Common.{◌∙◌, ◌+◌, ◌≤◌, ap, arith, sym}
+use Rattle.moka_shared.specs.Asks.{pair_of}
 use Rattle.moka_shared.specs.Hashing.{hash_in, place_in}
 use Rattle.moka_shared.proofs.Drawing.{above_other, door_seen, last_rises, last_seen, pair_named, segments_now, sum_small}
 use Rattle.moka_shared.proofs.table.HashMap.draw_for.Goals as goal
@@ -38,7 +39,7 @@ returns-in-Ok-clause-drawn g c =
         late = omega (arith, rises, is, last);
         pens = c.in-Ok.ensures.names.1;
         named = pair_named eq hash place t mid c.draw.new.front.log goes.is_log c.drawn-drawn.result (c.self.inside.segments + (c.drawn-drawn.result + 1))
-            c.args.key.now c.args.value.now c.in-Ok.ensures.writes;
+            (pair_of c.args.pair) c.in-Ok.ensures.writes;
       },
     )
 

@@ -1,33 +1,20 @@
-use Rattle.std.proofs.Common.{◌≡◌, ◌∙◌, ◌+◌, ◌*◌, ◌<◌, ◌≤◌, ◌^◌, ap, arith, subst, suc, sym}
+use Rattle.std.proofs.Common.{◌≡◌, ◌∙◌, ◌+◌, ◌*◌, ◌<◌, ap, arith, subst, suc, sym}
 use Rattle.moka_words.specs.Arrays.{bucket_at}
-use Rattle.moka_history.proofs.Lists.{one_item}
 use Rattle.moka_shared.specs.Hashing.{hash_in, place_in, segment_of}
-use Rattle.moka_shared.specs.Inserts.{Adds, entry_put}
 use Rattle.moka_shared.specs.Steps.{Sees}
 use Rattle.moka_shared.specs.Tables.{IsTable}
 use Rattle.moka_shared.proofs.Divided.{divided}
-use Rattle.moka_shared.proofs.Inserted.{none_made}
+use Rattle.moka_shared.proofs.Since.{none_made}
 use Rattle.moka_shared.proofs.Loading.{loaded, reads_at}
-use Rattle.moka_shared.proofs.Putting.{adds_entry, may_put, met_entry, ticket_small}
+use Rattle.moka_shared.proofs.Exchanging.{adds_entry, may_change, met_entry}
 use Rattle.moka_shared.proofs.Row.{bucket_read}
 use Rattle.moka_shared.proofs.table.HashMap.exchange_on.Goals as goal
 
+pub number_of-requires : goal.number_of-requires
+number_of-requires g c = c.requires.can.3.small.0
+
 pub number_of-requires-2 : goal.number_of-requires-2
-number_of-requires-2 g c = λ n e.
-    let eq = g.K.PartialEq.eq in
-    let hash = hash_in g.S.BuildHasher g.S.Hasher.Hasher g.K.Hash.hash_input in
-    let place = place_in g.S.BuildHasher g.S.Hasher.Hasher g.K.Hash.hash_input in
-    let t = c.args.self.now in
-    let equals = divided g.S.BuildHasher g.S.Hasher.Hasher g.K.Hash.hash_input eq g.met.K.Eq.laws g.met.K.Hash.respects_eq in
-    let key = c.requires.can.0 in
-    let value = c.requires.can.1 in
-    let found = c.requires.can.2 in
-    let can = c.requires.can.3 in
-    let own_below : place t.hasher t.segments key < t.segments =
-    subst (λ m. m < t.segments) (c.segment_of-segment.ensures.is ∙ (ap (λ s. segment_of s.segments c.args.gap.now.hash) c.self.view_is ∙ ap (segment_of t.segments) can.hashed))
-    (subst (λ s. c.segment_of-segment.result < s.segments) c.self.view_is c.segment_of-segment.ensures.within) in
-    subst (λ m. m ≤ 2 ^ 60) (one_item e) (ticket_small eq hash place equals t key own_below c.args.gap.now.hash can.hashed found c.args.front.now.log can.was c.requires.log can.begins
-    c.args.gap.now.passed c.args.gap.now.word can.ends can.free c.args.ticket value can.named)
+number_of-requires-2 g c = c.requires.can.3.small.1
 
 pub exchange-requires-clause-book : goal.exchange-requires-clause-book
 exchange-requires-clause-book g c =
@@ -48,7 +35,7 @@ exchange-requires-clause-may g c =
     let t = c.args.self.now in
     let equals = divided g.S.BuildHasher g.S.Hasher.Hasher g.K.Hash.hash_input eq g.met.K.Eq.laws g.met.K.Hash.respects_eq in
     let key = c.requires.can.0 in
-    let value = c.requires.can.1 in
+    let e = c.requires.can.1 in
     let found = c.requires.can.2 in
     let can = c.requires.can.3 in
     let gap = c.args.gap.now in
@@ -72,21 +59,16 @@ exchange-requires-clause-may g c =
     let array_is : segment + 1 ≡ suc (place t.hasher t.segments key) = (let e = own_is in omega (arith, e)) in
     let there_is : bucket.key ≡ 1 + (place t.hasher t.segments key * t.size + bucket_at t.size gap.hash gap.passed) =
     key_is ∙ (ap (λ s. 1 + (s * t.size + index)) own_is ∙ ap (λ i. 1 + (place t.hasher t.segments key * t.size + i)) index_is) in
-    may_put eq hash place equals t key own_below gap.hash can.hashed found old can.was c.requires.log can.begins gap.passed gap.word can.ends can.free
-    c.args.ticket value can.named (segment + 1) index bucket.key c.number_of.result array_is index_is there_is c.number_of.ensures own_inside
+    may_change eq hash place equals t key own_below gap.hash gap.passed gap.word c.args.to c.args.ticket e found old can c.requires.log (segment + 1) index bucket.key c.number_of.result array_is index_is there_is c.number_of.ensures own_inside
     c.number_of-2.result c.number_of-2.ensures
 
 pub returns-in-Ok-clause-done : goal.returns-in-Ok-clause-done
-returns-in-Ok-clause-done g c = λ own_key own_value named.
+returns-in-Ok-clause-done g c = λ key e found can.
     let eq = g.K.PartialEq.eq in
     let hash = hash_in g.S.BuildHasher g.S.Hasher.Hasher g.K.Hash.hash_input in
     let place = place_in g.S.BuildHasher g.S.Hasher.Hasher g.K.Hash.hash_input in
     let t = c.args.self.now in
     let equals = divided g.S.BuildHasher g.S.Hasher.Hasher g.K.Hash.hash_input eq g.met.K.Eq.laws g.met.K.Hash.respects_eq in
-    let key = c.requires.can.0 in
-    let value = c.requires.can.1 in
-    let found = c.requires.can.2 in
-    let can = c.requires.can.3 in
     let gap = c.args.gap.now in
     let old = c.args.front.now.log in
     let buckets = c.self.inside.buckets.items in
@@ -108,14 +90,11 @@ returns-in-Ok-clause-done g c = λ own_key own_value named.
     let array_is : segment + 1 ≡ suc (place t.hasher t.segments key) = (let e = own_is in omega (arith, e)) in
     let there_is : bucket.key ≡ 1 + (place t.hasher t.segments key * t.size + bucket_at t.size gap.hash gap.passed) =
     key_is ∙ (ap (λ s. 1 + (s * t.size + index)) own_is ∙ ap (λ i. 1 + (place t.hasher t.segments key * t.size + i)) index_is) in
-    let adds = adds_entry eq hash place equals t key own_below gap.hash can.hashed found old can.was c.requires.log can.begins gap.passed gap.word can.ends can.free
-    c.args.ticket value can.named (segment + 1) index bucket.key c.number_of.result array_is index_is there_is c.number_of.ensures own_inside
-    c.exchange.new.front.log c.in-Ok.ensures.spends in
-    let same : (key, value) ≡ (own_key, own_value) = one_item (sym can.named ∙ named) in
-    subst (λ p. Adds (entry_put c.args.ticket p.0 p.1) old c.exchange.new.front.log) same adds
+    adds_entry eq hash place equals t key own_below gap.hash gap.passed gap.word c.args.to c.args.ticket e found old can c.requires.log (segment + 1) index bucket.key c.number_of.result array_is index_is there_is c.number_of.ensures own_inside
+    c.exchange.new.front.log c.in-Ok.ensures.spends
 
 pub returns-in-Err-clause-met : goal.returns-in-Err-clause-met
-returns-in-Err-clause-met g c = λ key value found can.
+returns-in-Err-clause-met g c = λ key e found can.
     let eq = g.K.PartialEq.eq in
     let hash = hash_in g.S.BuildHasher g.S.Hasher.Hasher g.K.Hash.hash_input in
     let place = place_in g.S.BuildHasher g.S.Hasher.Hasher g.K.Hash.hash_input in
@@ -144,8 +123,7 @@ returns-in-Err-clause-met g c = λ key value found can.
     key_is ∙ (ap (λ s. 1 + (s * t.size + index)) own_is ∙ ap (λ i. 1 + (place t.hasher t.segments key * t.size + i)) index_is) in
     let new = c.exchange.new.front.log in
     let word = c.word_of.result in
-    let met = met_entry eq hash place equals t key own_below gap.hash can.hashed found old can.was c.requires.log can.begins gap.passed gap.word can.ends can.free
-    c.args.ticket value can.named (segment + 1) index bucket.key c.number_of.result array_is index_is there_is c.number_of.ensures own_inside
+    let met = met_entry eq hash place equals t key own_below gap.hash gap.passed gap.word c.args.to c.args.ticket e found old can c.requires.log (segment + 1) index bucket.key c.number_of.result array_is index_is there_is c.number_of.ensures own_inside
     new c.in-Err.found c.in-Err.ensures.sees c.in-Err.ensures.other c.args.pen.now.nib.key c.in-Err.ensures.away in
     let sees = subst (λ k. Sees eq hash place k c.in-Err.found old new) key_is c.in-Err.ensures.sees in
     let loads = loaded eq hash place t old new c.requires.log segment index below inside c.in-Err.found sees word c.word_of.ensures in

@@ -3,7 +3,7 @@ use Rattle.moka_shared.specs.Hashing.{hash_in, place_in, segment_of}
 use Rattle.moka_shared.proofs.Divided.{divided}
 use Rattle.moka_shared.proofs.Drawing.{last_rises}
 use Rattle.moka_shared.proofs.Filled.{filled}
-use Rattle.moka_shared.proofs.Inserted.{puts_since}
+use Rattle.moka_shared.proofs.Since.{inserts_since}
 use Rattle.moka_shared.proofs.Loading.{pair_read}
 use Rattle.moka_shared.proofs.Placed.{segment_below}
 use Rattle.moka_shared.proofs.table.HashMap.insert.Goals as goal
@@ -20,9 +20,9 @@ returns-in-At-clause-puts g c =
     let t = c.args.self.now in
     let old = c.args.seat.now in
     let goes = c.seek-ended.ensures.goes_on in
-    puts_since eq place t c.args.hash c.args.key.now c.args.value.now old record { front = c.seek-ended.new.front; hidden = c.seek-ended.new.hidden; drawn = old.drawn; mine = old.mine }
+    inserts_since eq place t c.args.hash old record { front = c.seek-ended.new.front; hidden = c.seek-ended.new.hidden; drawn = old.drawn; mine = old.mine }
     c.insert_at.new.seat goes.begins refl (last_rises eq hash place t old.front.log c.seek-ended.new.front.log c.requires.log goes.is_log goes.begins)
-    c.in-At.ensures.stops.1 refl c.insert_at.result c.insert_at.ensures.puts
+    c.in-At.ensures.stops.1 refl c.args.key.now c.args.value.now c.insert_at.result c.insert_at.ensures.puts
 
 pub returns-in-Full-clause-puts : goal.returns-in-Full-clause-puts
 returns-in-Full-clause-puts g c =

@@ -2,7 +2,7 @@ use Rattle.std.proofs.Common.{refl, rules}
 use Rattle.moka_history.proofs.Lists.{prefix_through}
 use Rattle.moka_shared.specs.Hashing.{hash_in, place_in}
 use Rattle.moka_shared.proofs.Answered.{legal_of}
-use Rattle.moka_shared.proofs.Inserted.{last_since, puts_made, puts_since}
+use Rattle.moka_shared.proofs.Since.{last_since, inserts_made, inserts_since}
 use Rattle.moka_shared.proofs.Tested.{computes}
 use Rattle.moka_shared.proofs.table.HashMap.insert_once.Goals as goal
 
@@ -15,19 +15,20 @@ returns-clause-legal g c =
     (place_in g.S.BuildHasher g.S.Hasher.Hasher g.K.Hash.hash_input) c.insert.new.seat.front.log c.insert.ensures.goes_on.is_log.kept
 
 pub returns-clause-made : goal.returns-clause-made
-returns-clause-made g c =
+returns-clause-made g c = λ was.
     let eq = g.K.PartialEq.eq in
     let hash = hash_in g.S.BuildHasher g.S.Hasher.Hasher g.K.Hash.hash_input in
     let place = place_in g.S.BuildHasher g.S.Hasher.Hasher g.K.Hash.hash_input in
     let t = c.args.self.now in
     let old = c.args.seat.now in
+    let new = c.insert.new.seat in
     let start = c.learn.new.self in
     let rises = last_since eq hash place start.log c.learn.ensures.4.1.1 old.front.log c.learn.ensures.2 in
-    let all = puts_since eq place t c.args.hash c.args.key.now c.args.value.now old record { front = start; hidden = old.hidden; drawn = old.drawn; mine = old.mine }
-    c.insert.new.seat c.learn.ensures.2 refl rises refl refl c.insert.result c.insert.ensures.puts in
-    puts_made eq hash place t c.args.hash c.args.key.now c.args.value.now old c.insert.new.seat
-    (prefix_through old.front.log start.log c.insert.new.seat.front.log c.learn.ensures.2 c.insert.ensures.goes_on.begins)
-    c.insert.ensures.goes_on.is_log.kept c.insert.result all
+    inserts_made eq hash place t c.args.hash old new
+    (prefix_through old.front.log start.log new.front.log c.learn.ensures.2 c.insert.ensures.goes_on.begins)
+    c.insert.ensures.goes_on.is_log.kept was c.args.key.now c.args.value.now c.insert.result
+    (inserts_since eq place t c.args.hash old record { front = start; hidden = old.hidden; drawn = old.drawn; mine = old.mine }
+    new c.learn.ensures.2 refl rises refl refl c.args.key.now c.args.value.now c.insert.result c.insert.ensures.puts)
 
 pub returns-clause-puts : goal.returns-clause-puts
 returns-clause-puts g c =
@@ -36,7 +37,8 @@ returns-clause-puts g c =
     let place = place_in g.S.BuildHasher g.S.Hasher.Hasher g.K.Hash.hash_input in
     let t = c.args.self.now in
     let old = c.args.seat.now in
+    let new = c.insert.new.seat in
     let start = c.learn.new.self in
     let rises = last_since eq hash place start.log c.learn.ensures.4.1.1 old.front.log c.learn.ensures.2 in
-    puts_since eq place t c.args.hash c.args.key.now c.args.value.now old record { front = start; hidden = old.hidden; drawn = old.drawn; mine = old.mine }
-    c.insert.new.seat c.learn.ensures.2 refl rises refl refl c.insert.result c.insert.ensures.puts
+    inserts_since eq place t c.args.hash old record { front = start; hidden = old.hidden; drawn = old.drawn; mine = old.mine }
+    new c.learn.ensures.2 refl rises refl refl c.args.key.now c.args.value.now c.insert.result c.insert.ensures.puts

@@ -1,7 +1,7 @@
 use Rattle.moka_history.proofs.Lists.{prefix_through}
 use Rattle.moka_shared.specs.Hashing.{hash_in, place_in}
 use Rattle.moka_shared.proofs.Answered.{legal_of}
-use Rattle.moka_shared.proofs.Inserted.{made_lasts}
+use Rattle.moka_shared.proofs.Since.{made_lasts}
 use Rattle.moka_shared.proofs.table.HashMap.meet.Goals as goal
 
 pub returns-clause-legal : goal.returns-clause-legal

@@ -1,8 +1,20 @@
-use Rattle.std.proofs.Common.{◌∙◌, ap, refl, subst, sym}
-use Rattle.moka_shared.specs.Hashing.{hash_in, place_in}
-use Rattle.moka_shared.specs.Inserts.{CanPut, Puts}
-use Rattle.moka_shared.proofs.Inserted.{puts_drawn, stands_more}
+use Rattle.std.proofs.Common.{◌∙◌, ◌<◌, Some, ap, refl, subst, sym}
+use Rattle.moka_words.specs.Words.{stored_in}
+use Rattle.moka_pairs.specs.Pairs.{pair_at}
+use Rattle.moka_history.specs.Logs.{state_of}
+use Rattle.moka_shared.specs.Changes.{entry_put}
+use Rattle.moka_shared.specs.Hashing.{hash_in, place_in, segment_of}
+use Rattle.moka_shared.proofs.Divided.{divided}
+use Rattle.moka_shared.proofs.Putting.{can_put}
+use Rattle.moka_shared.proofs.Since.{puts_drawn}
 use Rattle.moka_shared.proofs.table.HashMap.put.Goals as goal
+
+pub put_on-requires-clause-named : goal.put_on-requires-clause-named
+put_on-requires-clause-named g c =
+    let key_is = g.met.K.Exact.exact c.args.key.now c.in-Ok.own_key c.in-Ok.ensures.cases in
+    let value_is = g.met.V.Exact.exact c.args.value.now c.in-Ok-clone.own_value c.in-Ok-clone.ensures.cases in
+    c.in-Ok-draw_for.ensures.drawn.1.named
+    ∙ (ap (λ k. Some (k, c.args.value.now)) (sym key_is) ∙ ap (λ v. Some (c.in-Ok.own_key, v)) (sym value_is))
 
 pub put_on-requires-clause-can : goal.put_on-requires-clause-can
 put_on-requires-clause-can g c =
@@ -10,23 +22,20 @@ put_on-requires-clause-can g c =
     let hash = hash_in g.S.BuildHasher g.S.Hasher.Hasher g.K.Hash.hash_input in
     let place = place_in g.S.BuildHasher g.S.Hasher.Hasher g.K.Hash.hash_input in
     let t = c.args.self.now in
+    let equals = divided g.S.BuildHasher g.S.Hasher.Hasher g.K.Hash.hash_input eq g.met.K.Eq.laws g.met.K.Hash.respects_eq in
     let old = c.args.seat.now in
     let gap = c.args.gap.now in
+    let key = c.args.key.now in
+    let value = c.args.value.now in
     let mid = c.draw_for.new.front.log in
+    let goes = c.draw_for.ensures.goes_on in
     let drawn = c.in-Ok-draw_for.ensures.drawn.1 in
-    let key_is = g.met.K.Exact.exact c.args.key.now c.in-Ok.own_key c.in-Ok.ensures.cases in
-    let value_is = g.met.V.Exact.exact c.args.value.now c.in-Ok-clone.own_value c.in-Ok-clone.ensures.cases in
-    let can : CanPut eq hash place t gap.hash gap.passed gap.word c.in-Ok-draw_for.drawn.ticket c.args.key.now c.args.value.now old.front.log mid = record {
-      hashed = c.requires.hash;
-      was = c.requires.log;
-      begins = c.draw_for.ensures.goes_on.begins;
-      ends = c.requires.ends;
-      free = c.requires.free;
-      named = drawn.named;
-    } in
-    let own = subst (λ v. CanPut eq hash place t gap.hash gap.passed gap.word c.in-Ok-draw_for.drawn.ticket c.in-Ok.own_key v old.front.log mid) (sym value_is)
-    (subst (λ k. CanPut eq hash place t gap.hash gap.passed gap.word c.in-Ok-draw_for.drawn.ticket k c.args.value.now old.front.log mid) (sym key_is) can) in
-    (old.front.log, own)
+    let ticket = c.in-Ok-draw_for.drawn.ticket in
+    let own_below : place t.hasher t.segments key < t.segments = subst (λ n. segment_of t.segments n < t.segments) c.requires.hash c.requires.below in
+    let can = can_put eq hash place equals t key own_below gap.hash c.requires.hash old.front.log mid c.requires.log goes.is_log goes.begins gap.passed gap.word
+    c.requires.ends ticket value drawn.named in
+    let former = pair_at (state_of old.front.log).pairs (stored_in gap.word) in
+    (key, entry_put ticket key value former, old.front.log, can)
 
 pub returns-in-Ok-draw_for-clause-puts : goal.returns-in-Ok-draw_for-clause-puts
 returns-in-Ok-draw_for-clause-puts g c =
@@ -34,28 +43,20 @@ returns-in-Ok-draw_for-clause-puts g c =
     let hash = hash_in g.S.BuildHasher g.S.Hasher.Hasher g.K.Hash.hash_input in
     let place = place_in g.S.BuildHasher g.S.Hasher.Hasher g.K.Hash.hash_input in
     let t = c.args.self.now in
+    let equals = divided g.S.BuildHasher g.S.Hasher.Hasher g.K.Hash.hash_input eq g.met.K.Eq.laws g.met.K.Hash.respects_eq in
     let old = c.args.seat.now in
     let gap = c.args.gap.now in
+    let key = c.args.key.now in
+    let value = c.args.value.now in
     let mid = c.draw_for.new.front.log in
+    let goes = c.draw_for.ensures.goes_on in
     let drawn = c.in-Ok-draw_for.ensures.drawn.1 in
-    let key_is = g.met.K.Exact.exact c.args.key.now c.in-Ok.own_key c.in-Ok.ensures.cases in
-    let value_is = g.met.V.Exact.exact c.args.value.now c.in-Ok-clone.own_value c.in-Ok-clone.ensures.cases in
-    let can : CanPut eq hash place t gap.hash gap.passed gap.word c.in-Ok-draw_for.drawn.ticket c.args.key.now c.args.value.now old.front.log mid = record {
-      hashed = c.requires.hash;
-      was = c.requires.log;
-      begins = c.draw_for.ensures.goes_on.begins;
-      ends = c.requires.ends;
-      free = c.requires.free;
-      named = drawn.named;
-    } in
-    let own = subst (λ v. CanPut eq hash place t gap.hash gap.passed gap.word c.in-Ok-draw_for.drawn.ticket c.in-Ok.own_key v old.front.log mid) (sym value_is)
-    (subst (λ k. CanPut eq hash place t gap.hash gap.passed gap.word c.in-Ok-draw_for.drawn.ticket k c.args.value.now old.front.log mid) (sym key_is) can) in
-    subst (λ v. Puts eq place t gap.hash c.args.key.now v old c.put_on.new.seat c.put_on.result) value_is
-    (subst (λ k. Puts eq place t gap.hash k c.in-Ok-clone.own_value old c.put_on.new.seat c.put_on.result) key_is
-    (puts_drawn eq place t gap.hash c.in-Ok.own_key c.in-Ok-clone.own_value old record { front = c.draw_for.new.front; hidden = old.hidden; drawn = c.draw_for.new.own; mine = old.mine }
-    c.put_on.new.seat c.draw_for.ensures.goes_on.begins refl gap.passed c.in-Ok-draw_for.drawn.ticket drawn.late
+    let ticket = c.in-Ok-draw_for.drawn.ticket in
+    let own_below : place t.hasher t.segments key < t.segments = subst (λ n. segment_of t.segments n < t.segments) c.requires.hash c.requires.below in
+    let can = can_put eq hash place equals t key own_below gap.hash c.requires.hash old.front.log mid c.requires.log goes.is_log goes.begins gap.passed gap.word
+    c.requires.ends ticket value drawn.named in
+    let former = pair_at (state_of old.front.log).pairs (stored_in gap.word) in
+    puts_drawn eq place t gap.hash old record { front = c.draw_for.new.front; hidden = old.hidden; drawn = c.draw_for.new.own; mine = old.mine }
+    c.put_on.new.seat goes.begins refl (λ n. entry_put n key value former) gap.passed ticket drawn.late
     (ap (λ m. m.numbers) c.put_on.ensures.drawn ∙ c.in-Ok-draw_for.ensures.own) c.put_on.result
-    (c.put_on.ensures.puts old.front.log own)))
-
-pub returns-in-Ok-draw_for-clause-fact : goal.returns-in-Ok-draw_for-clause-fact
-returns-in-Ok-draw_for-clause-fact g c = stands_more (λ v. ⊥) (g.P.Fact.holds c.args.key.now) (λ v never. absurd never) c.put_on.result c.put_on.ensures.absent
+    (c.put_on.ensures.puts key (entry_put ticket key value former) old.front.log can)

@@ -8,7 +8,7 @@ use Rattle.moka_shared.specs.Probing.{Ends, StopsAt}
 use Rattle.moka_shared.specs.Tables.{IsTable}
 use Rattle.moka_shared.proofs.Answered.{legal_of}
 use Rattle.moka_shared.proofs.Found.{if_ok_to}
-use Rattle.moka_shared.proofs.Inserted.{made_lasts}
+use Rattle.moka_shared.proofs.Since.{made_lasts}
 use Rattle.moka_shared.proofs.Loading.{opened_by}
 use Rattle.moka_shared.proofs.table.HashMap.try_get.Goals as goal
 

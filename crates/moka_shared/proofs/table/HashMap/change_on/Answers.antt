@@ -1,0 +1,8 @@
+use Rattle.std.proofs.Common.{refl}
+use Rattle.moka_shared.proofs.table.HashMap.change_on.Goals as goal
+
+pub returns-in-Ok-clause-puts : goal.returns-in-Ok-clause-puts
+returns-in-Ok-clause-puts g c = λ key e found can. (c.in-Ok.ensures.done key e found can, c.with_ticket.ensures)
+
+pub returns-clause-puts : goal.returns-clause-puts
+returns-clause-puts g c = λ key e found can. (refl, c.in-Err.ensures.none, c.in-Err.ensures.met key e found can)
