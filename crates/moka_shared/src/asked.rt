@@ -2,7 +2,8 @@
 
 use moka_words::Word;
 
-/// The draw of a ticket: its number, and the pair that the history names under it; none of a removal.
+/// The draw of a ticket: its number, and the pair that the history names under it; none of a
+/// removal.
 #[derive(Drop)]
 pub(crate) struct Drawn<'a, K, V> {
     pub(crate) ticket: u64,

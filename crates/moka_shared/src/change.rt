@@ -28,8 +28,8 @@ impl<K: Eq + Hash + Exact + Drop, V: Exact + Drop, S: BuildHasher + Drop, P: Fac
     S,
     P,
 > {
-    /// Puts the value in place of the one that stands under the key, by one pass. Answers the former
-    /// one.
+    /// Puts the value in place of the one that stands under the key, by one pass. Answers the
+    /// former one.
     pub fn try_replace(
         &self,
         seat: &mut Seat<K, V, S>,
@@ -85,8 +85,8 @@ impl<K: Eq + Hash + Exact + Drop, V: Exact + Drop, S: BuildHasher + Drop, P: Fac
         None
     }
 
-    // Puts the value in place of the one that stands under the key, or removes the pair where none is
-    // to be put.
+    // Puts the value in place of the one that stands under the key, or removes the pair where none
+    // is to be put.
     fn change_once(
         &self,
         seat: &mut Seat<K, V, S>,
@@ -281,7 +281,8 @@ impl<K: Eq + Hash + Exact + Drop, V: Exact + Drop, S: BuildHasher + Drop, P: Fac
         ensures puts { (pair : K × V)
             → (state_of seat.old.front.log).pairs number ≡ Some pair
             → Puts K.eq (place_in S.BuildHasher S.Hasher.Hasher K.hash_input) self.now
-            gap.now.hash seat.old seat.new (Makes seat.old seat.new (λ n. entry_for n key.now (value_of put.entry) pair))
+            gap.now.hash seat.old seat.new (Makes seat.old seat.new
+            (λ n. entry_for n key.now (value_of put.entry) pair))
             (λ found. ⊥) result }
     {
         match put {

@@ -158,8 +158,9 @@ impl<K: Eq + Hash + Exact + Drop, V: Exact + Drop, S: BuildHasher + Drop, P: Fac
         requires stored { stored_in gap.now.word ≡ Some number }
         ensures front { seat.new.front ≡ seat.old.front }
         ensures fact { StandsSo (P.holds key.now) result }
-        ensures puts { (value : V) → Inserts K.eq (place_in S.BuildHasher S.Hasher.Hasher K.hash_input)
-            self.now gap.now.hash key.now value seat.old seat.new result }
+        ensures puts { (value : V) → Inserts K.eq
+            (place_in S.BuildHasher S.Hasher.Hasher K.hash_input) self.now gap.now.hash key.now
+            value seat.old seat.new result }
     {
         match self.standing(&seat.front, &mut seat.hidden, key, gap, number) {
             Standing::Here(found) => Put::There(found),

@@ -120,7 +120,8 @@ impl<K: Eq + Hash, V, S: BuildHasher, P: Fact<K, V>> HashMap<K, V, S, P> {
         requires can { (key : K) × (e : Entry K V) × (found : List (Note K V S)) × CanChange K.eq
             (hash_in S.BuildHasher S.Hasher.Hasher K.hash_input)
             (place_in S.BuildHasher S.Hasher.Hasher K.hash_input) self.now gap.now.hash
-            gap.now.passed gap.now.word (Live drawn.ticket) drawn.ticket key e found seat.old.front.log }
+            gap.now.passed gap.now.word (Live drawn.ticket) drawn.ticket key e found
+            seat.old.front.log }
         ensures book { seat.new.front.book ≡ seat.old.front.book }
         ensures hidden { seat.new.hidden ≡ seat.old.hidden }
         ensures drawn { seat.new.drawn ≡ seat.old.drawn }
@@ -130,7 +131,8 @@ impl<K: Eq + Hash, V, S: BuildHasher, P: Fact<K, V>> HashMap<K, V, S, P> {
         ensures puts { (key : K) (e : Entry K V) (found : List (Note K V S)) → CanChange K.eq
             (hash_in S.BuildHasher S.Hasher.Hasher K.hash_input)
             (place_in S.BuildHasher S.Hasher.Hasher K.hash_input) self.now gap.now.hash
-            gap.now.passed gap.now.word (Live drawn.ticket) drawn.ticket key e found seat.old.front.log
+            gap.now.passed gap.now.word (Live drawn.ticket) drawn.ticket key e found
+            seat.old.front.log
             → PutsOn self.now gap.now.hash gap.now.passed drawn.ticket e found seat.old seat.new
             result }
     {
