@@ -1,7 +1,9 @@
 /* Makes one call of a process fail: the allocation, the read of standard input or the write of
    standard output whose number, from 1, the variable FAIL_ALLOC, FAIL_READ or FAIL_WRITE has. Says
-   so on standard error. Where PIECE is set, reads and writes of these two move at most so many
-   bytes. Loaded before the C library, by tools/fail-alloc. */
+   so on standard error. Where FAIL_COUNT is set, so many of these calls in a row fail, from that one
+   on; where FAIL_STRIDE is set, so do those that begin at each so-manyth call after it. Where PIECE
+   is set, reads and writes of these two move at most so many bytes. Loaded before the C library, by
+   tools/fail-alloc. */
 #define _GNU_SOURCE
 #include <errno.h>
 #include <stddef.h>
@@ -17,10 +19,24 @@ extern void *__libc_realloc(void *, size_t);
 
 static unsigned long allocated, reads, writes;
 
+/* The number that the variable has, or this one where it is not set. */
+static unsigned long number_of(const char *variable, unsigned long unset) {
+    const char *text = getenv(variable);
+    return text == NULL ? unset : strtoul(text, NULL, 10);
+}
+
+/* Whether the call of this number is one of those that are to fail, of which this is the first. */
+static int is_wanted(unsigned long number, unsigned long first) {
+    unsigned long stride = number_of("FAIL_STRIDE", 0);
+    if (number < first)
+        return 0;
+    return (stride == 0 ? number - first : (number - first) % stride) < number_of("FAIL_COUNT", 1);
+}
+
 static int fails(const char *variable, unsigned long *made, int cause) {
     static const char line[] = "fail-alloc: one call failed\n";
     const char *wanted = getenv(variable);
-    if (wanted == NULL || ++*made != strtoul(wanted, NULL, 10))
+    if (wanted == NULL || !is_wanted(++*made, strtoul(wanted, NULL, 10)))
         return 0;
     (void)!syscall(SYS_write, 2, line, strlen(line));
     errno = cause;
