@@ -2,6 +2,9 @@
 
 use moka_cache_runs::calls::Call;
 
+/// How often a call's poll is made again at most where it finds no memory.
+const TRIES: u32 = 1000;
+
 /// How the calls are made.
 #[derive(Clone, Copy, PartialEq, Eq)]
 pub(crate) enum Way {
@@ -9,6 +12,8 @@ pub(crate) enum Way {
     Whole,
     /// Each is cancelled at its first poll that pends.
     Cancelled,
+    /// Each is cancelled at its first poll that pends, or finds no memory.
+    Dropped,
 }
 
 impl Way {
@@ -16,7 +21,15 @@ impl Way {
     pub(crate) fn pends(self, most: u64) -> u64 {
         match self {
             Way::Whole => most,
-            Way::Cancelled => 1,
+            Way::Cancelled | Way::Dropped => 1,
+        }
+    }
+
+    /// How many polls of a call may find no memory, the last of which ends it.
+    pub(crate) fn tries(self) -> u32 {
+        match self {
+            Way::Whole | Way::Cancelled => TRIES,
+            Way::Dropped => 1,
         }
     }
 }
@@ -26,6 +39,8 @@ impl Way {
 pub(crate) enum Deed {
     /// A call is made.
     One(Call),
+    /// A call is polled to its answer, in each way.
+    Whole(Call),
     /// Two calls are made at once.
     Both(Call, Call),
     /// Two calls are made at once, and the first is cancelled at the last of so many polls that pend.

@@ -3,7 +3,8 @@
 //!
 //! With the word `cancelled` each call is cancelled at its first poll that pends. It prints the same
 //! where memory is refused to it; until the scenario begins it may end with status 6, and says
-//! `out of memory`.
+//! `out of memory`. With the word `dropped` it plays a scenario of writes, each of which is cancelled
+//! also at a poll that finds no memory.
 #![tactic(auto)]
 
 mod deeds;
@@ -15,7 +16,6 @@ mod tasks;
 mod turns;
 
 use deeds::Way;
-use scenario::LINES;
 use stage::Stage;
 use std::alloc::AllocGlobal;
 use std::process::ExitCode;
@@ -36,8 +36,10 @@ fn main(rt: HostRuntime) -> ExitCode {
 /// The way that the command line asks for.
 fn way_asked(rt: &HostRuntime) -> io::Result<Way> {
     for word in env::args(rt)?.skip(1) {
-        if word.as_str() == "cancelled" {
-            return Ok(Way::Cancelled);
+        match word.as_str() {
+            "cancelled" => return Ok(Way::Cancelled),
+            "dropped" => return Ok(Way::Dropped),
+            _ => {}
         }
     }
     Ok(Way::Whole)
@@ -54,9 +56,7 @@ fn play<R: Wait + RandomSource + AllocGlobal + Print + Eprint>(rt: &R, way: Way)
     let Ok(mut stage) = Stage::build(rt, way) else {
         return end_in_memory(rt);
     };
-    for line in &LINES {
-        stage.play(rt, line);
-    }
+    stage.play(rt);
     match stage.print(rt) {
         Ok(()) => ExitCode::SUCCESS,
         Err(_) => ExitCode::FAILURE,

@@ -8,19 +8,18 @@ use futures::task::{Context, Poll};
 use moka_cache::{PollError, State};
 use std::sync::Wait;
 
-/// How often a poll that finds no memory is made again.
-const TRIES: u32 = 1000;
-
-/// A call that is polled again at once where a poll finds no memory, so no other task comes between.
-/// It is cancelled at the last of so many polls that pend, and gives no answer then.
+/// A call whose poll is made again at once where it finds no memory, so no other task comes between.
+/// Once it found none so many times, that is its answer. It is cancelled at the last of so many
+/// polls that pend, and gives no answer then.
 pub(crate) struct Patient<'a, R: Wait, S: State<R>> {
     rt: &'a R,
     call: Option<S>,
     pends: u64,
+    tries: u32,
 }
 
 impl<'a, R: Wait, S: State<R>> Patient<'a, R, S> {
-    pub(crate) fn new(rt: &'a R, call: S, pends: u64) -> Self
+    pub(crate) fn new(rt: &'a R, call: S, pends: u64, tries: u32) -> Self
         requires { S.can_poll call }
         ensures { IfSome result.call S.can_poll }
     {
@@ -28,13 +27,19 @@ impl<'a, R: Wait, S: State<R>> Patient<'a, R, S> {
             rt,
             call: Some(call),
             pends,
+            tries,
         }
     }
 }
 
 impl<R: Wait, S: State<R>> Drop for Patient<'_, R, S> {
     fn drop(self) {
-        let Self { rt, call, pends: _ } = self;
+        let Self {
+            rt,
+            call,
+            pends: _,
+            tries: _,
+        } = self;
         if let Some(call) = call {
             call.cancel(rt);
         }
@@ -50,7 +55,7 @@ impl<R: Wait, S: State<R, Output: Drop>> Future for Patient<'_, R, S> {
         let Some(mut call) = self.call.take() else {
             return Poll::Ready(None);
         };
-        match poll_with_memory(self.rt, &mut call, cx) {
+        match poll_with_memory(self.rt, &mut call, cx, self.tries) {
             Poll::Ready(answer) => {
                 call.cancel(self.rt);
                 Poll::Ready(Some(answer))
@@ -64,7 +69,7 @@ impl<R: Wait, S: State<R, Output: Drop>> Patient<'_, R, S> {
     // The call waits, if it may. Else it is cancelled.
     fn wait(&mut self, call: S) -> Poll<Option<Result<S::Output, PollError>>>
         requires { S.can_poll call }
-        ensures { IfSome self.new.call S.can_poll }
+        ensures { OnPending result (IfSome self.new.call S.can_poll) }
     {
         self.pends = self.pends.saturating_sub(1);
         if self.pends == 0 {
@@ -78,18 +83,19 @@ impl<R: Wait, S: State<R, Output: Drop>> Patient<'_, R, S> {
     }
 }
 
-// Polls the call until a poll finds memory.
+// Polls the call until a poll finds memory, or so many found none.
 fn poll_with_memory<R: Wait, S: State<R, Output: Drop>>(
     rt: &R,
     call: &mut S,
     cx: &mut Context<'_>,
+    tries: u32,
 ) -> Poll<Result<S::Output, PollError>>
     requires { S.can_poll call.old }
     ensures pending { OnPending result (S.can_poll call.new) }
     ensures armed { OnPending result (IsArmed cx.new) }
     ensures kept { Keeps cx.old cx.new }
 {
-    for _ in 0..TRIES {
+    for _ in 0..tries {
         match call.poll(rt, cx, 0) {
             Poll::Ready(Err(PollError::Memory)) => {}
             Poll::Ready(answer) => return Poll::Ready(answer),

@@ -1,7 +1,7 @@
-//! The scenario.
+//! The scenarios.
 
-use crate::deeds::Deed::{Both, Dropping, Fill, Has, One};
-use crate::deeds::Line;
+use crate::deeds::Deed::{Both, Dropping, Fill, Has, One, Whole};
+use crate::deeds::{Line, Way};
 use moka_cache_runs::calls::Call::{Lent, Own};
 use moka_cache_runs::calls::Compute::{ComputeWith, TryComputeWith, UpsertWith};
 use moka_cache_runs::calls::Gives;
@@ -12,8 +12,35 @@ use moka_cache_runs::calls::OfKey::{Get, Insert, Invalidate, Remove};
 use moka_cache_runs::calls::Test::IfEven;
 use moka_cache_runs::inits::Act::Put;
 
-/// What is done, in this order.
-pub(crate) const LINES: [Line; 26] = [
+/// A get of key 1, which tells what is stored.
+const STORED: Line = Line("stored", Whole(Lent(1, OfKey(Get))));
+
+/// What is done in this way, in this order.
+pub(crate) fn lines(way: Way) -> &'static [Line] {
+    match way {
+        Way::Whole | Way::Cancelled => &ALL,
+        Way::Dropped => &WRITES,
+    }
+}
+
+/// Writes of one key, and what is stored after each.
+const WRITES: [Line; 12] = [
+    Line("insert", One(Own(1, OfKey(Insert(5))))),
+    STORED,
+    Line("insert", One(Own(1, OfKey(Insert(6))))),
+    STORED,
+    Line("upsert", One(Own(1, Compute(UpsertWith(0))))),
+    STORED,
+    Line("removal", One(Lent(1, OfKey(Remove)))),
+    STORED,
+    Line("insert", One(Own(1, OfKey(Insert(8))))),
+    STORED,
+    Line("invalidation", One(Own(1, OfKey(Invalidate)))),
+    STORED,
+];
+
+/// Calls of each kind.
+const ALL: [Line; 26] = [
     Line("insert", One(Own(1, OfKey(Insert(5))))),
     Line("insert that is heard", One(Own(1, OfKey(Insert(6))))),
     Line(

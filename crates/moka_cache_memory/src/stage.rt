@@ -2,7 +2,7 @@
 
 use crate::deeds::{Deed, Line, Way};
 use crate::heard::{Board, NotingListener};
-use crate::scenario::LINES;
+use crate::scenario::lines;
 use crate::tasks::{Alone, Beside, Numbers};
 use crate::turns::Pair;
 use moka_cache::CacheBuilder;
@@ -26,6 +26,7 @@ pub(crate) struct Stage {
     board: Arc<Board, Global>,
     tasks: Pair,
     way: Way,
+    lines: &'static [Line],
     told: Vec<(Told, Told)>,
 }
 
@@ -43,7 +44,8 @@ fn heard_by(alloc: Global, listener: NotingListener) -> Result<Numbers, AllocErr
 impl Stage {
     /// Takes all memory that is not the calls'.
     pub(crate) fn build<R: RandomSource + AllocGlobal>(rt: &R, way: Way) -> io::Result<Stage> {
-        let told = Vec::with_capacity(rt.alloc(), LINES.len())?;
+        let lines = lines(way);
+        let told = Vec::with_capacity(rt.alloc(), lines.len())?;
         let tasks = Pair::new(rt)?;
         let board = Board::new(rt.alloc())?;
         let listener = NotingListener {
@@ -55,14 +57,17 @@ impl Stage {
             board,
             tasks,
             way,
+            lines,
             told,
         })
     }
 
-    /// Does what the line says, and notes what that told.
-    pub(crate) fn play<R: Wait + RandomSource + AllocGlobal>(&mut self, rt: &R, line: &Line) {
-        let told = self.told_by(rt, &line.1).unwrap_or((NOBODY, NOBODY));
-        let _ = self.told.push(told);
+    /// Does what each line says, and notes what that told.
+    pub(crate) fn play<R: Wait + RandomSource + AllocGlobal>(&mut self, rt: &R) {
+        for line in self.lines {
+            let told = self.told_by(rt, &line.1).unwrap_or((NOBODY, NOBODY));
+            let _ = self.told.push(told);
+        }
     }
 
     // What the deed told of its call, and of the one beside it.
@@ -72,7 +77,8 @@ impl Stage {
         deed: &Deed,
     ) -> io::Result<(Told, Told)> {
         match deed {
-            Deed::One(call) => Ok((self.made(rt, call)?, NOBODY)),
+            Deed::One(call) => Ok((self.made(rt, self.way, call)?, NOBODY)),
+            Deed::Whole(call) => Ok((self.made(rt, Way::Whole, call)?, NOBODY)),
             Deed::Both(call, other) => self.beside(rt, u64::MAX, call, other),
             Deed::Dropping(pends, call, other) => self.beside(rt, *pends, call, other),
             Deed::Fill(first, count) => Ok((self.filled(rt, *first, *count)?, NOBODY)),
@@ -80,8 +86,13 @@ impl Stage {
         }
     }
 
-    // What a call told that was made alone.
-    fn made<R: Wait + RandomSource + AllocGlobal>(&self, rt: &R, call: &Call) -> io::Result<Told> {
+    // What a call told that was made alone, in this way.
+    fn made<R: Wait + RandomSource + AllocGlobal>(
+        &self,
+        rt: &R,
+        way: Way,
+        call: &Call,
+    ) -> io::Result<Told> {
         let asks = Asks::new();
         let caller = Caller {
             rt,
@@ -90,7 +101,7 @@ impl Stage {
         };
         let alone = Alone {
             tasks: &self.tasks,
-            way: self.way,
+            way,
         };
         let (reply, _) = caller.make(call, alone)?;
         Ok(asks.told(reply))
@@ -153,7 +164,7 @@ impl Stage {
         let mut stored = 0;
         for more in 0..count {
             let key = first.saturating_add(more);
-            let told = self.made(rt, &Call::Own(key, Kind::OfKey(Insert(key))))?;
+            let told = self.made(rt, self.way, &Call::Own(key, Kind::OfKey(Insert(key))))?;
             if told.0 == Reply::Done {
                 stored += 1;
             }
@@ -173,7 +184,7 @@ impl Stage {
 
     /// Prints what each line told, what the listener heard, and how many entries there are.
     pub(crate) fn print<R: Wait + Print>(&self, rt: &R) -> io::Result<()> {
-        for (line, (told, other)) in LINES.iter().zip(&self.told) {
+        for (line, (told, other)) in self.lines.iter().zip(&self.told) {
             print_told(rt, line, told, other)?;
         }
         print_heard(rt, &self.board)?;

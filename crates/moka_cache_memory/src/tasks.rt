@@ -30,7 +30,10 @@ impl<R: Wait + RandomSource + AllocGlobal> Task<R> for Alone<'_> {
     fn run<S: State<R, Output: Replies>>(self, rt: &R, call: S) -> io::Result<(Reply, Reply)> {
         let answer = match self.way {
             Way::Whole => self.tasks.run(Polled::new(rt, call, 0)),
-            Way::Cancelled => flat(self.tasks.run(Patient::new(rt, call, 1))),
+            Way::Cancelled | Way::Dropped => {
+                let call = Patient::new(rt, call, self.way.pends(1), self.way.tries());
+                flat(self.tasks.run(call))
+            }
         };
         Ok((reply_of(answer), Reply::Dropped))
     }
@@ -88,8 +91,8 @@ impl<R: Wait + RandomSource + AllocGlobal, F: State<R, Output: Replies>> Task<R>
             pends,
             first,
         } = self;
-        let one = Patient::new(rt, first, way.pends(pends));
-        let other = Patient::new(rt, call, way.pends(u64::MAX));
+        let one = Patient::new(rt, first, way.pends(pends), way.tries());
+        let other = Patient::new(rt, call, way.pends(u64::MAX), way.tries());
         let (first, second) = tasks.run_both(one, other);
         Ok((reply_of(flat(first)), reply_of(flat(second))))
     }
