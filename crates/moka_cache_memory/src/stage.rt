@@ -161,12 +161,12 @@ impl Stage {
         first: u32,
         count: u32,
     ) -> io::Result<Told> {
-        let mut stored = 0;
+        let mut stored: u64 = 0;
         for more in 0..count {
             let key = first.saturating_add(more);
             let told = self.made(rt, self.way, &Call::Own(key, Kind::OfKey(Insert(key))))?;
             if told.0 == Reply::Done {
-                stored += 1;
+                stored = stored.saturating_add(1);
             }
         }
         Ok(Told(Reply::Counts(stored, stored), 0, NOBODY.2))
