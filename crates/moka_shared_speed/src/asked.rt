@@ -30,7 +30,7 @@ impl Asked {
         Ok(asked)
     }
 
-    /// The same with another work.
+    /// Asks for another work, with as many calls, threads and keys.
     pub(crate) fn with(&self, work: Work) -> Asked {
         Asked { work, ..*self }
     }
