@@ -11,6 +11,11 @@ use Rattle.moka_kept.specs.declared.heard.Heard.{Heard}
 use Rattle.moka_kept.specs.declared.heard.ListenerEnd.{ListenerEnd}
 use Rattle.moka_cache.specs.Hearing.{Awaits, Ends, IsHeard, Unheard, WasPolled}
 
+-- what holds of all holds of what there is
+pub whichever : {A : Type 0} (o : Option A) (P : A → Type 0) → ((a : A) → P a) → IfSome o P
+whichever None P all = tt
+whichever (Some a) P all = all a
+
 -- less is said of what was heard
 pub ended_so : {A : Type 0} (o : Option (Poll A)) (P Q : A → Type 0) → ((heard : A) → P heard → Q heard) → IfSome o (λ polled. IfReady polled P) → IfSome o (λ polled. IfReady polled Q)
 ended_so None P Q weaker h = tt

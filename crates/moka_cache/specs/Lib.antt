@@ -2,6 +2,7 @@ pub mod Settings
 pub mod Errors
 pub mod Keys
 pub mod Asked
+pub mod Calls
 pub mod Computes
 pub mod Inits
 pub mod Loaded

@@ -18,7 +18,7 @@ use futures::executor::block_on;
 use moka_kept::Listener;
 use moka_values::Exact;
 use std::alloc::AllocGlobal;
-use std::hash::Hash;
+use std::hash::{BuildHasher, Hash};
 use std::io;
 use std::random::RandomSource;
 use std::sync::Wait;
@@ -31,7 +31,7 @@ where
     V: Exact,
     E: Exact,
     L: Listener<K, V>,
-    S: Drop,
+    S: BuildHasher + Drop,
 {
     /// Polls the call on this thread until it answers, each time at a moment that comes from there;
     /// while the call waits the thread sleeps. It is `futures::executor::block_on` of a `Polled` of
@@ -46,6 +46,7 @@ where
         M: Moments + Drop,
         requires may { MayPoll self.stage }
         requires asks { Q.can_poll self.asked }
+        requires hears { (l : L) (key : K) (value : V) → L.hears l key value }
         requires tells { Tells K.eq (Q.gives self.asked)
             (called (rules_of self.cache.now) A.start) A.output self.stage }
         // What its call may come to.

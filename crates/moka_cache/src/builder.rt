@@ -3,13 +3,15 @@ ghost use Rattle.std.specs.Prelude.{◌≡◌, Some, None, Err, IfErr, IfNone, I
 ghost use Rattle.std.specs.Option.{option_map};
 ghost use Rattle.std.specs.String.{string_bytes};
 
-use crate::cache::{Cache, FixedSeed};
-use moka_hist::{BuildError, Rules};
-use moka_kept::NoListener;
+use crate::cache::Cache;
+use crate::errors::BuildError;
+use moka_hist::Rules;
+use moka_kept::{Listener, NoListener};
+use moka_room::FixedSeed;
 use moka_values::Exact;
 use std::alloc::Global;
 use std::fmt;
-use std::hash::Hash;
+use std::hash::{BuildHasher, Hash};
 use std::marker::PhantomData;
 use std::time::Duration;
 
@@ -25,7 +27,7 @@ pub struct CacheBuilder<K, V, E = (), L = NoListener> {
     types: PhantomData<(K, V, E)>,
 }
 
-impl<K, V, E, L> Default for CacheBuilder<K, V, E, L> {
+impl<K, V, E> Default for CacheBuilder<K, V, E> {
     ghost is_default = { λ b. (b.name ≡ None) × (b.max_capacity ≡ None)
         × (b.initial_capacity ≡ None) × (b.time_to_live ≡ None) × (b.time_to_idle ≡ None)
         × (b.listener ≡ None) };
@@ -59,18 +61,8 @@ impl<K, V, E, L> fmt::Debug for CacheBuilder<K, V, E, L> {
     }
 }
 
-impl<K, V, E, L> CacheBuilder<K, V, E, L>
-where
-    K: Eq + Hash + Exact,
-    V: Exact,
-    E: Exact,
-    L: Drop,
-{
-    ghost use Rattle.moka_hist.specs.Settings.{refusal_of};
-    ghost use Rattle.moka_cache.specs.Settings.{hasher_of, listener_of, name_of, rules_of};
-    ghost use Rattle.moka_cache.specs.Settings.{rules_asked};
-
-    /// Begins to build a cache of this capacity: how many records it keeps. One of capacity 0
+impl<K, V, E> CacheBuilder<K, V, E> {
+    /// Begins to build a cache of this capacity, which has no effect yet but at 0: such a cache
     /// stores nothing. It has no name and no listener, and its records don't expire.
     pub fn new(max_capacity: u64) -> Self
         ensures name { result.name ≡ None }
@@ -80,8 +72,23 @@ where
         ensures idle { result.time_to_idle ≡ None }
         ensures listener { result.listener ≡ None }
     {
-        CacheBuilder::default().max_capacity(max_capacity)
+        let mut built = CacheBuilder::default();
+        built.max_capacity = Some(max_capacity);
+        built
     }
+}
+
+impl<K, V, E, L> CacheBuilder<K, V, E, L>
+where
+    K: Eq + Hash + Exact,
+    V: Exact,
+    E: Exact,
+    L: Drop,
+{
+    ghost use Rattle.moka_hist.specs.Settings.{refusal_of};
+    ghost use Rattle.moka_cache.specs.Errors.{refused_by};
+    ghost use Rattle.moka_cache.specs.Settings.{hasher_of, listener_of, name_of, rules_of};
+    ghost use Rattle.moka_cache.specs.Settings.{rules_asked};
 
     /// Sets the name of the cache.
     pub fn name(self, name: String) -> Self
@@ -92,8 +99,7 @@ where
         built
     }
 
-    /// Sets how many records the cache is to keep. A capacity of 0 disables it; a greater one has
-    /// no effect yet.
+    /// Sets the capacity, which has no effect yet but at 0: such a cache stores nothing.
     pub fn max_capacity(self, max_capacity: u64) -> Self
         ensures { result ≡ record self { max_capacity = Some max_capacity } }
     {
@@ -132,18 +138,37 @@ where
         built
     }
 
-    /// Sets the listener, which hears of each record that a write replaces or a call takes out.
-    pub fn eviction_listener(self, listener: L) -> Self
-        ensures { result ≡ record self { listener = Some listener } }
+    /// Sets the listener, which hears of each record that a write replaces or a call takes out: a
+    /// closure, or a value of a type of one's own. One that was set before is dropped.
+    pub fn eviction_listener<H: Listener<K, V>>(self, listener: H) -> CacheBuilder<K, V, E, H>
+        ensures listener { result.listener ≡ Some listener }
+        // All else is kept.
+        ensures name { result.name ≡ self.name }
+        ensures capacity { result.max_capacity ≡ self.max_capacity }
+        ensures initial { result.initial_capacity ≡ self.initial_capacity }
+        ensures live { result.time_to_live ≡ self.time_to_live }
+        ensures idle { result.time_to_idle ≡ self.time_to_idle }
     {
-        let mut built = self;
-        built.listener = Some(listener);
-        built
+        CacheBuilder {
+            name: self.name,
+            max_capacity: self.max_capacity,
+            initial_capacity: self.initial_capacity,
+            time_to_live: self.time_to_live,
+            time_to_idle: self.time_to_idle,
+            listener: Some(listener),
+            types: PhantomData,
+        }
     }
 
     /// Sets the listener, as `eviction_listener` does: a cache has one listener, which is polled.
-    pub fn async_eviction_listener(self, listener: L) -> Self
-        ensures { result ≡ record self { listener = Some listener } }
+    pub fn async_eviction_listener<H: Listener<K, V>>(self, listener: H) -> CacheBuilder<K, V, E, H>
+        ensures listener { result.listener ≡ Some listener }
+        // All else is kept.
+        ensures name { result.name ≡ self.name }
+        ensures capacity { result.max_capacity ≡ self.max_capacity }
+        ensures initial { result.initial_capacity ≡ self.initial_capacity }
+        ensures live { result.time_to_live ≡ self.time_to_live }
+        ensures idle { result.time_to_idle ≡ self.time_to_idle }
     {
         self.eviction_listener(listener)
     }
@@ -157,16 +182,19 @@ where
         ensures name { IfOk result (λ cache. name_of cache ≡ option_map string_bytes self.name) }
         ensures listener { IfOk result (λ cache. listener_of cache ≡ self.listener) }
         ensures refused { IfSome (refusal_of (rules_asked self))
-            (λ refusal. result ≡ Err refusal) }
+            (λ refusal. result ≡ Err (refused_by refusal)) }
         ensures memory { IfNone (refusal_of (rules_asked self))
             (IfErr result (λ e. e ≡ BuildError.Memory)) }
     {
         self.build_with_hasher(alloc, FixedSeed::new())
     }
 
-    /// Builds the cache, as `build` does, with this to make its hashers. It is kept, and nothing is
-    /// hashed by it yet.
-    pub fn build_with_hasher<S: Drop>(
+    /// Builds the cache, as `build` does, whose keys are hashed by clones of this: where records lie,
+    /// who owns the load of a key, and who holds its lock. `build` takes std's hasher of fixed seed:
+    /// who picks keys can pick such that fall together there, and each call walks them under the
+    /// lock. For keys that strangers pick hand in a `RandomState`. An error of the hasher's clone is
+    /// `Memory`.
+    pub fn build_with_hasher<S: BuildHasher + Clone + Drop>(
         self,
         alloc: Global,
         hasher: S,
@@ -176,13 +204,13 @@ where
         ensures listener { IfOk result (λ cache. listener_of cache ≡ self.listener) }
         ensures hasher { IfOk result (λ cache. hasher_of cache ≡ hasher) }
         ensures refused { IfSome (refusal_of (rules_asked self))
-            (λ refusal. result ≡ Err refusal) }
+            (λ refusal. result ≡ Err (refused_by refusal)) }
         ensures memory { IfNone (refusal_of (rules_asked self))
             (IfErr result (λ e. e ≡ BuildError.Memory)) }
     {
         let rules = self.rules();
         if let Some(refusal) = rules.refusal() {
-            return Err(refusal);
+            return Err(BuildError::of(refusal));
         }
         match Cache::made(alloc, self.name, rules, self.listener, hasher, 0) {
             Ok(cache) => Ok(cache),

@@ -8,42 +8,40 @@ use crate::builder::CacheBuilder;
 use moka_engine::Policy;
 use moka_hist::Rules;
 use moka_kept::{Guarded, NoListener};
+use moka_room::FixedSeed;
 use moka_values::Exact;
 use std::alloc::{AllocError, Global};
 use std::fmt;
-use std::hash::{BuildHasherDefault, FoldHasher, Hash};
+use std::hash::{BuildHasher, Hash};
 use std::sync::Arc;
 
 // What the clones of a cache share.
 #[derive(Drop)]
-pub(crate) struct Shared<K: Eq + Hash, V, E, L, S> {
+pub(crate) struct Shared<K: Eq + Hash, V, E, L, S: BuildHasher> {
     pub(crate) name: Option<String>,
-    pub(crate) guarded: Guarded<K, V, E>,
+    pub(crate) guarded: Guarded<K, V, E, S>,
     pub(crate) listener: Option<L>,
     pub(crate) hasher: S,
 }
 
-/// The hashers of a cache that is given none: those of std's maps, with a fixed seed.
-pub type FixedSeed = BuildHasherDefault<FoldHasher>;
-
 /// A cache, which any number of tasks on any threads share by its clones. `E` is the type of errors
 /// of its loads that may fail, `()` where it has none; `L` is that of its listener, and `S` of what
-/// makes its hashers, which hash nothing yet.
+/// makes the hashers of its keys, clones of which its maps by key have.
 #[derive(Drop)]
-pub struct Cache<K: Eq + Hash, V, E = (), L = NoListener, S = FixedSeed> {
+pub struct Cache<K: Eq + Hash, V, E = (), L = NoListener, S: BuildHasher = FixedSeed> {
     pub(crate) shared: Arc<Shared<K, V, E, L, S>, Global>,
 }
 
-impl<K, V, E, L> Cache<K, V, E, L>
+impl<K, V, E> Cache<K, V, E>
 where
     K: Eq + Hash + Exact,
     V: Exact,
     E: Exact,
-    L: Drop,
 {
     ghost use Rattle.moka_cache.specs.Settings.{listener_of, name_of, rules_of, rules_with};
 
-    /// Makes an empty cache of this capacity, without a name and a listener.
+    /// Makes an empty cache of this capacity, which has no effect yet but at 0: such a cache stores
+    /// nothing. It has no name and no listener.
     pub fn new(alloc: Global, max_capacity: u64) -> Result<Self, AllocError>
         ensures rules { IfOk result
             (λ cache. rules_of cache ≡ rules_with (Some max_capacity) false) }
@@ -55,7 +53,7 @@ where
 
     /// Begins to build a cache: one without a name and a listener, whose capacity has no bound, and
     /// whose records don't expire.
-    pub fn builder() -> CacheBuilder<K, V, E, L>
+    pub fn builder() -> CacheBuilder<K, V, E>
         ensures name { result.name ≡ None }
         ensures capacity { result.max_capacity ≡ None }
         ensures live { result.time_to_live ≡ None }
@@ -95,7 +93,7 @@ where
     V: Exact,
     E: Exact,
     L: Drop,
-    S: Drop,
+    S: BuildHasher + Drop,
 {
     ghost use Rattle.moka_cache.specs.Settings.{hasher_of, listener_of, name_of, rules_of};
 
@@ -109,12 +107,15 @@ where
         hasher: S,
         last: u64,
     ) -> Result<Self, AllocError>
+    where
+        S: Clone,
         ensures rules { IfOk result (λ cache. rules_of cache ≡ rules) }
         ensures name { IfOk result (λ cache. name_of cache ≡ option_map string_bytes name) }
         ensures listener { IfOk result (λ cache. listener_of cache ≡ listener) }
         ensures hasher { IfOk result (λ cache. hasher_of cache ≡ hasher) }
     {
-        let guarded = Guarded::starting_after(alloc, rules, last)?;
+        let of_keys = hasher.clone()?;
+        let guarded = Guarded::starting_after(alloc, rules, last, of_keys)?;
         let shared = Arc::new(
             alloc,
             Shared {
@@ -156,7 +157,7 @@ where
     V: Exact,
     E: Exact,
     L: Drop,
-    S: Drop,
+    S: BuildHasher + Drop,
 {
     fn fmt<W: fmt::Write>(&self, f: &mut fmt::Formatter<W>) -> fmt::Result {
         f.debug_struct("Cache")
@@ -173,7 +174,7 @@ where
     V: Exact,
     E: Exact,
     L: Drop,
-    S: Drop,
+    S: BuildHasher + Drop,
 {
     ghost is_clone = { λ cache copy. arc_value copy.shared ≡ arc_value cache.shared };
 

@@ -14,15 +14,16 @@ ghost use Rattle.moka_cache.specs.Suits.{StateAnswers, Suits, Tells};
 
 use crate::asked::{Asked, Nobody};
 use crate::begin::Begin;
-use crate::cache::{Cache, FixedSeed};
+use crate::cache::Cache;
 use crate::errors::PollError;
 use crate::polled::State;
 use crate::stage::{Nested, Stage, put};
 use futures::task::{Context, Poll};
 use moka_hist::Start;
 use moka_kept::{Left, Listener, NoListener};
+use moka_room::FixedSeed;
 use moka_values::Exact;
-use std::hash::Hash;
+use std::hash::{BuildHasher, Hash};
 use std::marker::PhantomData;
 use std::mem;
 use std::sync::Wait;
@@ -32,7 +33,7 @@ use std::sync::Wait;
 /// as `Get`, are of this type.
 ///
 /// It has no `Drop`: one that has answered is finished, and any other is cancelled.
-pub struct CacheCall<'a, A, K: Eq + Hash, V, E, Q, L = NoListener, S = FixedSeed> {
+pub struct CacheCall<'a, A, K: Eq + Hash, V, E, Q, L = NoListener, S: BuildHasher = FixedSeed> {
     cache: &'a Cache<K, V, E, L, S>,
     stage: Stage<A, K, V, E>,
     named: Option<K>,
@@ -46,7 +47,7 @@ where
     V: Exact,
     E: Exact,
     L: Listener<K, V>,
-    S: Drop,
+    S: BuildHasher + Drop,
 {
     /// A call that is to begin so, and asks nothing. It takes no memory, number or lock before its
     /// first poll.
@@ -189,7 +190,7 @@ where
     V: Exact,
     E: Exact,
     L: Listener<K, V>,
-    S: Drop,
+    S: BuildHasher + Drop,
 {
     /// Goes on at `moment`, in nanoseconds; one before the clock counts as the clock. Answers Ready
     /// once its call has answered. After `Memory` it can be polled again, and what was done stands;
@@ -202,6 +203,7 @@ where
     ) -> Poll<Result<A::Output, PollError>>
         requires may { MayPoll self.old.stage }
         requires asks { Q.can_poll self.old.asked }
+        requires hears { (l : L) (key : K) (value : V) → L.hears l key value }
         requires tells { Tells K.eq (Q.gives self.old.asked)
             (called (rules_of self.old.cache.now) A.start) A.output self.old.stage }
         // What was done.
@@ -301,13 +303,14 @@ where
     V: Exact,
     E: Exact,
     L: Listener<K, V>,
-    S: Drop,
+    S: BuildHasher + Drop,
 {
     ghost use Rattle.moka_cache.specs.declared.stage.Stage.TheVariants as Stage;
 
     type Output = A::Output;
 
     ghost can_poll = { λ call. MayPoll call.stage × Q.can_poll call.asked
+        × ((l : L) (key : K) (value : V) → L.hears l key value)
         × Tells K.eq (Q.gives call.asked)
         (called (rules_of call.cache.now) A.start) A.output call.stage };
 

@@ -12,15 +12,15 @@ ghost use Rattle.moka_cache.specs.Suits.{Tells};
 
 use crate::begin::{Begin, Begun};
 use crate::by_compute::{ByCompute, ComputeStage};
-use crate::cache::FixedSeed;
 use crate::call::CacheCall;
 use crate::compute::Compute;
 use crate::entry::EntrySelector;
 use crate::key::CallKey;
 use moka_hist::{Answer, CompResult, Op, Start};
 use moka_kept::{Listener, NoListener};
+use moka_room::FixedSeed;
 use moka_values::Exact;
-use std::hash::Hash;
+use std::hash::{BuildHasher, Hash};
 
 /// What a compute is of.
 #[derive(Drop)]
@@ -73,7 +73,7 @@ where
     V: Exact,
     E: Exact,
     L: Listener<K, V>,
-    S: Drop,
+    S: BuildHasher + Drop,
 {
     /// Waits until no other compute of the key goes, looks the key up, asks what is to be done with
     /// what it has, and does that. Answers what it has done.

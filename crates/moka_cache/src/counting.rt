@@ -3,7 +3,7 @@
 use crate::cache::{Cache, Shared};
 use moka_values::Exact;
 use std::alloc::AllocError;
-use std::hash::Hash;
+use std::hash::{BuildHasher, Hash};
 use std::sync::Wait;
 
 impl<K, V, E, L, S> Cache<K, V, E, L, S>
@@ -12,7 +12,7 @@ where
     V: Exact,
     E: Exact,
     L: Drop,
-    S: Drop,
+    S: BuildHasher + Drop,
 {
     /// Whether a get would show a record of the key at `moment`, in nanoseconds; one before the
     /// clock counts as the clock. It is no access to the record, so it puts off no time to idle. An

@@ -17,7 +17,7 @@ use futures::task::{Context, Poll};
 use moka_hist::{Answer, Start};
 use moka_kept::{Brought, Heard, Left, Listener, Live, Number};
 use moka_values::Exact;
-use std::hash::Hash;
+use std::hash::{BuildHasher, Hash};
 use std::sync::Wait;
 
 impl<K, V, E, L, S> Cache<K, V, E, L, S>
@@ -26,7 +26,7 @@ where
     V: Exact,
     E: Exact,
     L: Listener<K, V>,
-    S: Drop,
+    S: BuildHasher + Drop,
 {
     ghost use Rattle.moka_hist.specs.Run.{fresh_call};
     ghost use Rattle.moka_hist.specs.State.{Call};
@@ -65,6 +65,7 @@ where
     ) -> Poll<Result<Answer<K, V, E>, PollError>>
         requires may { MayPoll stage.old }
         requires asks { Q.can_poll asked.old }
+        requires hears { (l : L) (key : K) (value : V) → L.hears l key value }
         // What was done.
         ensures answers { IfReady result (λ r. IfOk r (λ answer. (begins : A → Call K V E)
             → AnswersWith K.eq (Accords (Q.gives asked.old) (Q.tests asked.old))
@@ -126,6 +127,7 @@ where
     ) -> Poll<Result<Answer<K, V, E>, PollError>>
         requires rests { Rests flow.old }
         requires asks { Q.can_poll asked.old }
+        requires hears { (l : L) (key : K) (value : V) → L.hears l key value }
         ensures polled { PollIs K.eq (Accords (Q.gives asked.old) (Q.tests asked.old))
             flow.old result flow.new }
         // Who is asked is begun, polled, or asked its test, only where the call came to that.
@@ -159,6 +161,7 @@ where
     ) -> Turned<Result<Answer<K, V, E>, PollError>>
         requires rests { Rests flow.old }
         requires asks { Q.can_poll asked.old }
+        requires hears { (l : L) (key : K) (value : V) → L.hears l key value }
         ensures turns { TurnIs K.eq (Accords (Q.gives asked.old) (Q.tests asked.old))
             flow.old (over_in result) flow.new }
         ensures unasked { (asked.new ≡ asked.old)
@@ -187,6 +190,7 @@ where
     ) -> Turned<Result<Answer<K, V, E>, PollError>>
         requires rests { Rests flow.old }
         requires asks { Q.can_poll asked.old }
+        requires hears { (l : L) (key : K) (value : V) → L.hears l key value }
         ensures turns { TurnIs K.eq (Accords (Q.gives asked.old) (Q.tests asked.old))
             flow.old (over_in result) flow.new }
         ensures unasked { (asked.new ≡ asked.old)
@@ -225,6 +229,7 @@ where
     ) -> Turned<Result<Answer<K, V, E>, PollError>>
         requires rests { Rests flow.old }
         requires asks { Q.can_poll asked.old }
+        requires hears { (l : L) (key : K) (value : V) → L.hears l key value }
         ensures turns { TurnIs K.eq (Brings (tested_in (call_of flow.old).plan) brought)
             flow.old (over_in result) flow.new }
         ensures unasked { (asked.new ≡ asked.old)

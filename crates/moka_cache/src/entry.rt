@@ -2,16 +2,17 @@
 ghost use Rattle.std.specs.Prelude.{◌≡◌};
 ghost use Rattle.moka_cache.specs.Keys.{key_of};
 
-use crate::cache::{Cache, FixedSeed};
+use crate::cache::Cache;
 use crate::key::CallKey;
 use moka_kept::{Listener, NoListener};
+use moka_room::FixedSeed;
 use moka_values::Exact;
-use std::hash::Hash;
+use std::hash::{BuildHasher, Hash};
 
 /// A key of a cache that a call is to be made for. Each of its calls takes it, and gives the state
 /// of the call. What a call answers has this key, also where an equal one is stored.
 #[derive(Drop)]
-pub struct EntrySelector<'a, K: Eq + Hash, V, E, L = NoListener, S = FixedSeed> {
+pub struct EntrySelector<'a, K: Eq + Hash, V, E, L = NoListener, S: BuildHasher = FixedSeed> {
     pub(crate) cache: &'a Cache<K, V, E, L, S>,
     pub(crate) key: CallKey<'a, K>,
 }
@@ -42,7 +43,7 @@ where
     V: Exact,
     E: Exact,
     L: Listener<K, V>,
-    S: Drop,
+    S: BuildHasher + Drop,
 {
     /// Selects the entry of the key. That does nothing.
     pub fn entry<'a>(&'a self, key: K) -> OwnedKeyEntrySelector<'a, K, V, E, L, S>

@@ -1,12 +1,60 @@
-//! Why a call of the cache answers no result.
+//! Why a cache is not built, and why a call of one answers no result.
 ghost use Rattle.std.specs.Prelude.{◌≡◌};
 ghost use Rattle.std.specs.IoError.{error_kind};
 ghost use Rattle.std.specs.declared.io.ErrorKind.TheVariants as Kind;
-ghost use Rattle.moka_cache.specs.Errors.{kind_of};
+ghost use Rattle.moka_cache.specs.Errors.{build_kind_of, kind_of, refused_by};
 
 use std::alloc::AllocError;
+use std::io::ErrorKind;
 use std::{error, fmt, io};
 use thiserror::Error;
+
+/// Why a cache is not built.
+#[derive(Clone, Copy, PartialEq, Eq, Debug, Error)]
+pub enum BuildError {
+    /// The time to live is longer than 31,536,000,000 seconds, a thousand years of 365 days.
+    #[error("time_to_live is longer than 1000 years")]
+    TimeToLiveTooLong,
+    /// The time to idle is longer than 31,536,000,000 seconds, and the time to live isn't.
+    #[error("time_to_idle is longer than 1000 years")]
+    TimeToIdleTooLong,
+    /// Memory was wanting.
+    #[error("out of memory")]
+    Memory,
+}
+
+impl BuildError {
+    /// Why no cache is built of rules that are refused so.
+    pub(crate) fn of(refusal: moka_hist::BuildError) -> BuildError
+        ensures { result ≡ refused_by refusal }
+    {
+        match refusal {
+            moka_hist::BuildError::TimeToLiveTooLong => BuildError::TimeToLiveTooLong,
+            moka_hist::BuildError::TimeToIdleTooLong => BuildError::TimeToIdleTooLong,
+            moka_hist::BuildError::Memory => BuildError::Memory,
+        }
+    }
+}
+
+/// `Memory` becomes what an `AllocError` becomes, and a time that is too long an error of the kind
+/// `InvalidInput`.
+impl From<BuildError> for io::Error {
+    ghost from_gives = { λ error told. error_kind told ≡ build_kind_of error };
+
+    fn from(error: BuildError) -> io::Error {
+        match error {
+            BuildError::TimeToLiveTooLong => io::Error::new(
+                ErrorKind::InvalidInput,
+                "time_to_live is longer than 1000 years",
+            ),
+            BuildError::TimeToIdleTooLong => io::Error::new(
+                ErrorKind::InvalidInput,
+                "time_to_idle is longer than 1000 years",
+            ),
+            BuildError::Memory => io::Error::from(AllocError),
+        }
+    }
+}
 
 /// What a poll answers in place of its result.
 #[derive(Clone, Copy, PartialEq, Eq, Debug, Error)]

@@ -11,15 +11,16 @@ ghost use Rattle.moka_cache.specs.Suits.{Tells};
 
 use crate::begin::{Begin, Begun};
 use crate::by_init::{ByInit, ByInitIf};
-use crate::cache::{Cache, FixedSeed};
+use crate::cache::Cache;
 use crate::call::CacheCall;
 use crate::errors::RetriesExhausted;
 use crate::init::Init;
 use crate::key::CallKey;
 use moka_hist::{Answer, Start};
 use moka_kept::{Listener, NoListener};
+use moka_room::FixedSeed;
 use moka_values::Exact;
-use std::hash::Hash;
+use std::hash::{BuildHasher, Hash};
 
 /// What a load looks up, and stores where it is absent.
 #[derive(Drop)]
@@ -89,7 +90,7 @@ where
     V: Exact,
     E: Exact,
     L: Listener<K, V>,
-    S: Drop,
+    S: BuildHasher + Drop,
 {
     /// Looks the key up, and loads its value where it is absent. Of all callers that miss the key
     /// at once one owns the load and has its `init` polled; the others answer what that gave.

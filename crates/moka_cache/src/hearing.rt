@@ -6,6 +6,7 @@ ghost use Rattle.futures.specs.Task.{IsArmed, Keeps};
 ghost use Rattle.moka_cache.specs.Asked.{BegunBy, BegunFor, entry_of};
 ghost use Rattle.moka_hist.specs.Plan.{hearing};
 ghost use Rattle.moka_init.specs.FlowPlan.{call_of};
+ghost use Rattle.moka_kept.specs.Ends.{MayEnd};
 ghost use Rattle.moka_kept.specs.Stops.{IsWaiting};
 ghost use Rattle.moka_cache.specs.Hearing.{Awaits, Ends, FollowsStop, IsHeard, MayPend, Unheard};
 ghost use Rattle.moka_cache.specs.Hearing.{WasPolled, heard_in, over_in};
@@ -18,7 +19,7 @@ use futures::task::{Context, Poll};
 use moka_hist::{Answer, Entry};
 use moka_kept::{DueNotice, Heard, Listener, Live, OwnAsk, Stop};
 use moka_values::Exact;
-use std::hash::Hash;
+use std::hash::{BuildHasher, Hash};
 
 /// How a turn of a poll leaves its call. It has no `Drop`, so that no end of a notice is let go.
 pub(crate) enum Turned<T> {
@@ -35,7 +36,7 @@ where
     V: Exact,
     E: Exact,
     L: Listener<K, V>,
-    S: Drop,
+    S: BuildHasher + Drop,
 {
     /// What follows a hold that left the call of the flow so: a listener that it asks is started;
     /// who answers its own ask begins, where that is of a compute; and where the call awaits the
@@ -49,6 +50,7 @@ where
     ) -> Turned<Result<Answer<K, V, E>, PollError>>
         requires waits { IsWaiting stop → IsArmed cx.old }
         requires asks { Q.can_poll asked.old }
+        requires hears { (l : L) (key : K) (value : V) → L.hears l key value }
         ensures begun { BegunBy Q.begins stop asked.old asked.new }
         ensures asked { AskedStays Q.can_poll Q.gives Q.tests asked.old asked.new }
         ensures follows { FollowsStop stop (over_in result) }
@@ -56,7 +58,7 @@ where
             → IsWaiting stop ⊎ Awaits (Unheard L.pends self.now.listener) flow.now }
         // What the next hold is to tell, and that a listener that is awaited was polled.
         ensures heard { IfSome (heard_in result)
-            (IsHeard (Ends L.ends self.now.listener) flow.now) }
+            (IsHeard (Ends (MayEnd L.quits) self.now.listener) flow.now) }
         ensures polled { over_in result ≡ Some Poll.Pending
             → WasPolled L.pends self.now.listener flow.now }
         ensures armed { over_in result ≡ Some Poll.Pending → IsArmed cx.new }
@@ -82,12 +84,13 @@ where
         due: DueNotice<K, V>,
         cx: &mut Context<'_>,
     ) -> Turned<Result<Answer<K, V, E>, PollError>>
+        requires hears { (l : L) (key : K) (value : V) → L.hears l key value }
         ensures pends { MayPend (over_in result) }
         ensures cause { over_in result ≡ Some Poll.Pending
             → Awaits (Unheard L.pends self.now.listener) flow.now }
         // What the next hold is to tell, and that a listener that is awaited was polled.
         ensures heard { IfSome (heard_in result)
-            (IsHeard (Ends L.ends self.now.listener) flow.now) }
+            (IsHeard (Ends (MayEnd L.quits) self.now.listener) flow.now) }
         ensures polled { over_in result ≡ Some Poll.Pending
             → WasPolled L.pends self.now.listener flow.now }
         ensures armed { over_in result ≡ Some Poll.Pending → IsArmed cx.new }
@@ -109,7 +112,7 @@ where
         ensures pends { MayPend (over_in result) }
         // What the next hold is to tell, and that a listener that is awaited was polled.
         ensures heard { IfSome (heard_in result)
-            (IsHeard (Ends L.ends self.now.listener) flow.now) }
+            (IsHeard (Ends (MayEnd L.quits) self.now.listener) flow.now) }
         ensures polled { over_in result ≡ Some Poll.Pending
             → WasPolled L.pends self.now.listener flow.now }
         ensures kept { Keeps cx.old cx.new }
@@ -126,7 +129,7 @@ where
         ensures cause { result ≡ Some Poll.Pending
             → Awaits (Unheard L.pends self.now.listener) flow.now }
         ensures ended { IfSome result (λ polled. IfReady polled
-            (IsHeard (Ends L.ends self.now.listener) flow.now)) }
+            (IsHeard (Ends (MayEnd L.quits) self.now.listener) flow.now)) }
         ensures none { IfNone result (IsSome self.now.listener
             → hearing flow.now.call (call_of flow.now).plan ≡ None) }
         ensures armed { result ≡ Some Poll.Pending → IsArmed cx.new }
@@ -184,7 +187,7 @@ fn hear_by<K: Drop, V: Drop, E: Drop, L: Listener<K, V>>(
 ) -> Option<Poll<Heard>>
     ensures cause { result ≡ Some Poll.Pending → Awaits (L.pends listener.now) flow.now }
     ensures ended { IfSome result (λ polled. IfReady polled
-        (IsHeard (L.ends listener.now) flow.now)) }
+        (IsHeard (MayEnd L.quits listener.now) flow.now)) }
     ensures none { IfNone result (hearing flow.now.call (call_of flow.now).plan ≡ None) }
     ensures armed { result ≡ Some Poll.Pending → IsArmed cx.new }
     ensures kept { Keeps cx.old cx.new }
@@ -203,7 +206,7 @@ fn poll_notice<K, V, L: Listener<K, V>>(
 ) -> Poll<Heard>
     ensures pending { OnPending result (L.pends listener.now notice) }
     ensures ended { IfReady result (λ heard. (heard.notice ≡ notice)
-        × L.ends listener.now notice heard.end) }
+        × MayEnd L.quits listener.now notice heard.end) }
     ensures armed { OnPending result (IsArmed cx.new) }
     ensures kept { Keeps cx.old cx.new }
 {

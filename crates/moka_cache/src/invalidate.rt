@@ -6,12 +6,13 @@ ghost use Rattle.moka_cache.specs.Stages.{BeginsWith, MayPoll};
 
 use crate::asked::Nobody;
 use crate::begin::{Begin, Begun};
-use crate::cache::{Cache, FixedSeed};
+use crate::cache::Cache;
 use crate::call::CacheCall;
 use moka_hist::{Answer, Start};
 use moka_kept::{Listener, NoListener};
+use moka_room::FixedSeed;
 use moka_values::Exact;
-use std::hash::Hash;
+use std::hash::{BuildHasher, Hash};
 
 /// What an invalidation takes out.
 #[derive(Drop)]
@@ -60,7 +61,7 @@ where
     V: Exact,
     E: Exact,
     L: Listener<K, V>,
-    S: Drop,
+    S: BuildHasher + Drop,
 {
     /// Takes the key out, if it is there.
     pub fn invalidate<'a>(&'a self, key: &'a K) -> Invalidate<'a, K, V, E, L, S>

@@ -11,15 +11,15 @@ ghost use Rattle.moka_cache.specs.Suits.{Suits, Tells};
 
 use crate::asked::Nobody;
 use crate::begin::{Begin, Begun};
-use crate::cache::FixedSeed;
 use crate::call::CacheCall;
 use crate::entry::EntrySelector;
 use crate::key::CallKey;
 use crate::or_insert_with::loaded_entry;
 use moka_hist::{Answer, Entry, Start};
 use moka_kept::{Listener, NoListener};
+use moka_room::FixedSeed;
 use moka_values::Exact;
-use std::hash::Hash;
+use std::hash::{BuildHasher, Hash};
 
 /// What is stored where a key has no value.
 #[derive(Drop)]
@@ -74,7 +74,7 @@ where
     V: Exact,
     E: Exact,
     L: Listener<K, V>,
-    S: Drop,
+    S: BuildHasher + Drop,
 {
     /// Looks the key up, and stores the value where it is absent. The entry is fresh where that was
     /// stored. Of two such calls that both find nothing each stores its own, the later in the place
@@ -101,7 +101,7 @@ where
     V: Exact + Default + Drop,
     E: Exact,
     L: Listener<K, V>,
-    S: Drop,
+    S: BuildHasher + Drop,
 {
     /// Looks the key up, and stores the default value where it is absent, as `or_insert` does. The
     /// default is made now.

@@ -11,7 +11,6 @@ ghost use Rattle.moka_cache.specs.Suits.{Tells};
 
 use crate::begin::{Begin, Begun};
 use crate::by_init::{ByInit, ByInitIf};
-use crate::cache::FixedSeed;
 use crate::call::CacheCall;
 use crate::entry::EntrySelector;
 use crate::errors::RetriesExhausted;
@@ -19,8 +18,9 @@ use crate::init::Init;
 use crate::key::CallKey;
 use moka_hist::{Answer, Entry, Start};
 use moka_kept::{Listener, NoListener};
+use moka_room::FixedSeed;
 use moka_values::Exact;
-use std::hash::Hash;
+use std::hash::{BuildHasher, Hash};
 
 /// What a load of an entry looks up, and stores where it is absent.
 #[derive(Drop)]
@@ -90,7 +90,7 @@ where
     V: Exact,
     E: Exact,
     L: Listener<K, V>,
-    S: Drop,
+    S: BuildHasher + Drop,
 {
     /// Looks the key up, or loads its value, as `get_with` does. The entry is fresh where the
     /// initializer of this call gave the value.

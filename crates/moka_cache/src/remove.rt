@@ -6,13 +6,14 @@ ghost use Rattle.moka_cache.specs.Stages.{BeginsWith, MayPoll, value_in};
 
 use crate::asked::Nobody;
 use crate::begin::{Begin, Begun};
-use crate::cache::{Cache, FixedSeed};
+use crate::cache::Cache;
 use crate::call::CacheCall;
 use crate::get::value_in;
 use moka_hist::{Answer, Start};
 use moka_kept::{Listener, NoListener};
+use moka_room::FixedSeed;
 use moka_values::Exact;
-use std::hash::Hash;
+use std::hash::{BuildHasher, Hash};
 
 /// What a removal takes out.
 #[derive(Drop)]
@@ -61,7 +62,7 @@ where
     V: Exact,
     E: Exact,
     L: Listener<K, V>,
-    S: Drop,
+    S: BuildHasher + Drop,
 {
     /// Takes the key out. Answers the value that it had, or None where it is absent.
     pub fn remove<'a>(&'a self, key: &'a K) -> Remove<'a, K, V, E, L, S>

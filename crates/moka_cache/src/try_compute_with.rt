@@ -11,15 +11,15 @@ ghost use Rattle.moka_cache.specs.Suits.{Tells};
 
 use crate::begin::{Begin, Begun};
 use crate::by_compute::{ByCompute, ComputeStage};
-use crate::cache::FixedSeed;
 use crate::call::CacheCall;
 use crate::compute::Compute;
 use crate::entry::EntrySelector;
 use crate::key::CallKey;
 use moka_hist::{Answer, CompResult, Start};
 use moka_kept::{Listener, NoListener};
+use moka_room::FixedSeed;
 use moka_values::Exact;
-use std::hash::Hash;
+use std::hash::{BuildHasher, Hash};
 
 /// What a compute is of that may fail.
 #[derive(Drop)]
@@ -120,7 +120,7 @@ where
     V: Exact,
     E: Exact,
     L: Listener<K, V>,
-    S: Drop,
+    S: BuildHasher + Drop,
 {
     /// Computes, as `and_compute_with` does. Where the compute gives an error, the call answers
     /// that, and what the key has stays.

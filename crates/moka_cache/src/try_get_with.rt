@@ -11,15 +11,16 @@ ghost use Rattle.moka_cache.specs.Suits.{Tells};
 
 use crate::begin::{Begin, Begun};
 use crate::by_init::ByTryInit;
-use crate::cache::{Cache, FixedSeed};
+use crate::cache::Cache;
 use crate::call::CacheCall;
 use crate::errors::LoadError;
 use crate::init::Init;
 use crate::key::CallKey;
 use moka_hist::{Answer, Start};
 use moka_kept::{Listener, NoListener};
+use moka_room::FixedSeed;
 use moka_values::Exact;
-use std::hash::Hash;
+use std::hash::{BuildHasher, Hash};
 
 /// What a load that may fail looks up, and stores where it is absent and its initializer gives it.
 #[derive(Drop)]
@@ -74,7 +75,7 @@ where
     V: Exact,
     E: Exact,
     L: Listener<K, V>,
-    S: Drop,
+    S: BuildHasher + Drop,
 {
     /// Looks the key up, or loads its value, as `get_with` does, by an initializer that may give an
     /// error. Then nothing is stored, and all loads of this kind that wait for it answer that error

@@ -13,15 +13,15 @@ ghost use Rattle.moka_cache.specs.Suits.{Tells};
 
 use crate::begin::{Begin, Begun};
 use crate::by_compute::{ByUpsert, ComputeStage};
-use crate::cache::FixedSeed;
 use crate::call::CacheCall;
 use crate::compute::Compute;
 use crate::entry::EntrySelector;
 use crate::key::CallKey;
 use moka_hist::{Answer, CompResult, Entry, Op, Start};
 use moka_kept::{Listener, NoListener};
+use moka_room::FixedSeed;
 use moka_values::Exact;
-use std::hash::Hash;
+use std::hash::{BuildHasher, Hash};
 
 /// What an upsert is of.
 #[derive(Drop)]
@@ -74,7 +74,7 @@ where
     V: Exact,
     E: Exact,
     L: Listener<K, V>,
-    S: Drop,
+    S: BuildHasher + Drop,
 {
     /// Waits until no other compute of the key goes, looks the key up, asks for a value made of
     /// what it has, and stores that. Answers its entry: fresh, and replaced where the look found

@@ -1,7 +1,7 @@
 //! What was inserted, and what is found.
 
 use moka_cache::{Cache, Listener};
-use std::hash::Hash;
+use std::hash::{BuildHasher, Hash};
 use std::test::Fail;
 
 // Takes what any thread may have and share.
@@ -14,7 +14,7 @@ where
     V: Clone + Drop + Send + Sync,
     E: Clone + Drop + Send + Sync,
     L: Listener<K, V> + Send + Sync,
-    S: Drop + Send + Sync,
+    S: BuildHasher + Drop + Send + Sync,
 {
     is_shared(cache);
 }

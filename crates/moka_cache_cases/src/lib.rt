@@ -22,6 +22,8 @@ mod finding;
 #[cfg(test)]
 mod giving;
 #[cfg(test)]
+mod hashing;
+#[cfg(test)]
 mod invalidating;
 #[cfg(test)]
 mod loading;

@@ -1,12 +1,12 @@
 //! Calls of caches of numbers, of each kind.
 
 use crate::asks::Asks;
-use crate::caches::Heard;
+use crate::caches::{Heard, HearsAny};
 use crate::inits::{Act, After, Counts, Fails, Tells};
 use crate::numbers::numbers;
 use crate::replies::Reply;
 use crate::tasks::{Alone, Once, Setting, Task};
-use moka_cache::{EntrySelector, Listener};
+use moka_cache::EntrySelector;
 use std::alloc::AllocGlobal;
 use std::io;
 use std::random::RandomSource;
@@ -119,7 +119,7 @@ pub struct Caller<'a, R, L> {
 /// What is told of a call, and of another beside it.
 pub type Both = io::Result<(Reply, Reply)>;
 
-impl<R: Wait + RandomSource + AllocGlobal, L: Listener<u32, u32>> Caller<'_, R, L> {
+impl<R: Wait + RandomSource + AllocGlobal, L: HearsAny> Caller<'_, R, L> {
     /// Runs the call to its end, and tells what it replied.
     pub fn run(&self, call: &Call) -> io::Result<Reply> {
         let (reply, _) = self.make(call, Alone(0))?;
@@ -315,7 +315,7 @@ pub trait Group: Copy + Drop {
     fn make<R, L, T>(self, caller: &Caller<'_, R, L>, call: &Call, task: T) -> Both
     where
         R: Wait + RandomSource + AllocGlobal,
-        L: Listener<u32, u32>,
+        L: HearsAny,
         T: Task<R>,
         requires { T.is_ready task };
 }
@@ -324,7 +324,7 @@ impl Group for OfKey {
     fn make<R, L, T>(self, caller: &Caller<'_, R, L>, call: &Call, task: T) -> Both
     where
         R: Wait + RandomSource + AllocGlobal,
-        L: Listener<u32, u32>,
+        L: HearsAny,
         T: Task<R>,
     {
         match self {
@@ -340,7 +340,7 @@ impl Group for Load {
     fn make<R, L, T>(self, caller: &Caller<'_, R, L>, call: &Call, task: T) -> Both
     where
         R: Wait + RandomSource + AllocGlobal,
-        L: Listener<u32, u32>,
+        L: HearsAny,
         T: Task<R>,
     {
         match self {
@@ -356,7 +356,7 @@ impl Group for OfEntry {
     fn make<R, L, T>(self, caller: &Caller<'_, R, L>, call: &Call, task: T) -> Both
     where
         R: Wait + RandomSource + AllocGlobal,
-        L: Listener<u32, u32>,
+        L: HearsAny,
         T: Task<R>,
     {
         match self {
@@ -376,7 +376,7 @@ impl Group for Compute {
     fn make<R, L, T>(self, caller: &Caller<'_, R, L>, call: &Call, task: T) -> Both
     where
         R: Wait + RandomSource + AllocGlobal,
-        L: Listener<u32, u32>,
+        L: HearsAny,
         T: Task<R>,
     {
         match self {

@@ -7,17 +7,19 @@ ghost use Rattle.moka_cache.specs.Settings.{rules_of};
 ghost use Rattle.moka_cache.specs.declared.stage.Stage.TheVariants as Stage;
 ghost use Rattle.moka_cache_runs.specs.Runs.{CanRun};
 
+use crate::caches::HearsAny;
 use futures::task::{Context, Poll};
-use moka_cache::{Asked, Begin, CacheCall, FixedSeed, Listener, NoListener, PollError, State};
+use moka_cache::{Asked, Begin, CacheCall, FixedSeed, NoListener, PollError, State};
+use std::hash::BuildHasher;
 use std::sync::Wait;
 
 /// A call of a cache of numbers.
-pub struct NumberCall<'a, A, Q, L = NoListener, S = FixedSeed> {
+pub struct NumberCall<'a, A, Q, L = NoListener, S: BuildHasher = FixedSeed> {
     call: CacheCall<'a, A, u32, u32, u32, Q, L, S>,
 }
 
 /// The call as a state, where it may be run.
-pub fn numbers<'a, A: Begin<u32, u32, u32>, Q: Asked<u32, u32, u32>, L, S>(
+pub fn numbers<'a, A: Begin<u32, u32, u32>, Q: Asked<u32, u32, u32>, L, S: BuildHasher>(
     call: CacheCall<'a, A, u32, u32, u32, Q, L, S>,
 ) -> NumberCall<'a, A, Q, L, S>
     requires can { CanRun nat_eq A.start A.output Q.can_poll Q.gives (rules_of call.cache.now)
@@ -33,8 +35,8 @@ where
     R: Wait,
     A: Begin<u32, u32, u32>,
     Q: Asked<u32, u32, u32>,
-    L: Listener<u32, u32>,
-    S: Drop,
+    L: HearsAny,
+    S: BuildHasher + Drop,
 {
     type Output = A::Output;
 

@@ -1,11 +1,11 @@
 //! Worked cases as rows: what is done with a cache, and what it tells.
 
 use crate::asks::{Asks, Told};
-use crate::caches::{Heard, Numbers};
+use crate::caches::{Heard, HearsAny, Numbers};
 use crate::calls::{Call, Caller, Group, Kind};
 use crate::replies::Reply;
 use crate::tasks::{Alone, First, Once, Unpolled};
-use moka_cache::{Cache, Listener};
+use moka_cache::Cache;
 use std::alloc::AllocGlobal;
 use std::io;
 use std::random::RandomSource;
@@ -63,7 +63,7 @@ pub fn wrong_row<R: Wait + RandomSource + AllocGlobal>(
 }
 
 /// Plays the rows on a cache that is there, and gives the first of which another thing is told.
-pub fn wrong_row_on<R: Wait + RandomSource + AllocGlobal, L: Listener<u32, u32>>(
+pub fn wrong_row_on<R: Wait + RandomSource + AllocGlobal, L: HearsAny>(
     rt: &R,
     cache: &Heard<L>,
     rows: &[Row],
@@ -78,7 +78,7 @@ pub fn wrong_row_on<R: Wait + RandomSource + AllocGlobal, L: Listener<u32, u32>>
 }
 
 // What is told of the event.
-fn told<R: Wait + RandomSource + AllocGlobal, L: Listener<u32, u32>>(
+fn told<R: Wait + RandomSource + AllocGlobal, L: HearsAny>(
     rt: &R,
     cache: &Heard<L>,
     event: &Event,
@@ -148,7 +148,7 @@ impl<'a> Beside<'a> {
 
 // Runs the call beside the other. Fewer pairs of kinds are made than there are, since each is
 // compiled: of any further one it is told that both were dropped.
-fn run_beside<R: Wait + RandomSource + AllocGlobal, L: Listener<u32, u32>>(
+fn run_beside<R: Wait + RandomSource + AllocGlobal, L: HearsAny>(
     caller: &Caller<'_, R, L>,
     pair: &Beside<'_>,
 ) -> io::Result<(Reply, Reply)> {
@@ -170,7 +170,7 @@ fn make_both<R, L, F, G>(
 ) -> io::Result<(Reply, Reply)>
 where
     R: Wait + RandomSource + AllocGlobal,
-    L: Listener<u32, u32>,
+    L: HearsAny,
     F: Group,
     G: Group,
 {
@@ -186,7 +186,7 @@ where
 }
 
 // Whether the key is there at this moment.
-fn has<R: Wait, L: Listener<u32, u32>>(
+fn has<R: Wait, L: HearsAny>(
     caller: &Caller<'_, R, L>,
     key: &u32,
     moment: u64,
@@ -196,13 +196,13 @@ fn has<R: Wait, L: Listener<u32, u32>>(
 }
 
 // Invalidates all at this moment.
-fn invalidate_all<R: Wait, L: Listener<u32, u32>>(caller: &Caller<'_, R, L>, moment: u64) -> Reply {
+fn invalidate_all<R: Wait, L: HearsAny>(caller: &Caller<'_, R, L>, moment: u64) -> Reply {
     caller.cache.invalidate_all(caller.rt, moment);
     Reply::Done
 }
 
 // How many entries there are.
-fn count<R: Wait, L: Listener<u32, u32>>(caller: &Caller<'_, R, L>) -> Reply {
+fn count<R: Wait, L: HearsAny>(caller: &Caller<'_, R, L>) -> Reply {
     let cache = caller.cache;
     Reply::Counts(cache.entry_count(caller.rt), cache.weighted_size(caller.rt))
 }

@@ -8,7 +8,7 @@ ghost use Rattle.moka_cache_runs.specs.Runs.{CanRun};
 use moka_cache::{Asked, Begin, CacheCall, Listener};
 use moka_values::Exact;
 use std::alloc::AllocGlobal;
-use std::hash::Hash;
+use std::hash::{BuildHasher, Hash};
 use std::io;
 use std::random::RandomSource;
 use std::sync::Wait;
@@ -26,9 +26,10 @@ where
     E: Exact,
     Q: Asked<K, V, E>,
     L: Listener<K, V>,
-    S: Drop,
+    S: BuildHasher + Drop,
     requires can { CanRun K.eq A.start A.output Q.can_poll Q.gives (rules_of call.cache.now)
         call.stage call.asked }
+    requires hears { (l : L) (key : K) (value : V) → L.hears l key value }
 {
     call.block_on(rt, 0)
 }

@@ -5,14 +5,14 @@
 ghost use Rattle.std.specs.Prelude.{⊤};
 
 use crate::asks::Asks;
-use crate::caches::Heard;
+use crate::caches::{Heard, HearsAny};
 use crate::calls::{Call, Caller, Group};
 use crate::inits::{DropsAfter, Sets};
 use crate::replies::{Replies, Reply, reply_of};
 use futures::FutureExt;
 use futures::executor::block_on;
 use futures::future::join;
-use moka_cache::{Listener, Polled, State};
+use moka_cache::{Polled, State};
 use std::alloc::AllocGlobal;
 use std::io;
 use std::random::RandomSource;
@@ -96,7 +96,7 @@ pub struct First<'a, L, G> {
 impl<R, L, G> Task<R> for First<'_, L, G>
 where
     R: Wait + RandomSource + AllocGlobal,
-    L: Listener<u32, u32>,
+    L: HearsAny,
     G: Group,
 {
     fn run<S: State<R, Output: Replies>>(self, rt: &R, call: S) -> io::Result<(Reply, Reply)> {

@@ -1,6 +1,7 @@
 //! The works on a cache.
 
 use crate::crowd::call_at_once;
+use crate::heard::HearsAny;
 use crate::kinds::make;
 use crate::later::Later;
 use crate::numbers::{NumberCall, Numbers};
@@ -33,7 +34,7 @@ const CANCELLED: [Turn; 5] = [
     (Kind::Remove, Way::Apart),
 ];
 
-impl<R: Wait + RandomSource + AllocGlobal> Shared<R> for Numbers {
+impl<R: Wait + RandomSource + AllocGlobal, L: HearsAny> Shared<R> for Numbers<L> {
     fn fill(&self, rt: &R, keys: u64) -> io::Result<u64> {
         let rounds = Rounds::below(self, keys);
         make(rt, &rounds, Kind::Insert, Way::Once, Span::below(keys))
@@ -55,9 +56,9 @@ impl<R: Wait + RandomSource + AllocGlobal> Shared<R> for Numbers {
 }
 
 /// Makes so many loads, each of the next key.
-fn load<R: Wait + RandomSource + AllocGlobal>(
+fn load<R: Wait + RandomSource + AllocGlobal, L: HearsAny>(
     rt: &R,
-    cache: &Numbers,
+    cache: &Numbers<L>,
     calls: u64,
 ) -> io::Result<u64> {
     let rounds = Rounds::below(cache, u64::MAX);
@@ -65,9 +66,9 @@ fn load<R: Wait + RandomSource + AllocGlobal>(
 }
 
 /// Makes so many rounds of the kind. Tells how many are over.
-fn make_kind<R: Wait + RandomSource + AllocGlobal>(
+fn make_kind<R: Wait + RandomSource + AllocGlobal, L: HearsAny>(
     rt: &R,
-    rounds: &Rounds<'_>,
+    rounds: &Rounds<'_, L>,
     kind: Kind,
     way: Way,
     count: u64,
@@ -83,9 +84,9 @@ fn make_kind<R: Wait + RandomSource + AllocGlobal>(
 
 /// Makes so many rounds: all turns with one key, then all with the next one. Tells how many turns are
 /// over.
-fn in_turn<R: Wait + RandomSource + AllocGlobal>(
+fn in_turn<R: Wait + RandomSource + AllocGlobal, L: HearsAny>(
     rt: &R,
-    rounds: &Rounds<'_>,
+    rounds: &Rounds<'_, L>,
     turns: &[Turn],
     count: u64,
 ) -> io::Result<u64> {
@@ -101,10 +102,10 @@ fn in_turn<R: Wait + RandomSource + AllocGlobal>(
 
 /// Lets many records or calls come and go, of calls few too, and then stores few keys. Each part is
 /// told by a line of its own, so that the memory after each can be seen from outside.
-pub(crate) fn come_and_store<R: Wait + RandomSource + AllocGlobal + Print>(
+pub(crate) fn come_and_store<R: Wait + RandomSource + AllocGlobal + Print, L: HearsAny>(
     rt: &R,
     alloc: Global,
-    cache: &Numbers,
+    cache: &Numbers<L>,
     burst: Burst,
     many: u64,
     few: u64,
@@ -125,10 +126,10 @@ pub(crate) fn come_and_store<R: Wait + RandomSource + AllocGlobal + Print>(
 }
 
 /// Stores so many keys and takes each out.
-fn come_and_go<R: Wait + RandomSource + AllocGlobal + Print>(
+fn come_and_go<R: Wait + RandomSource + AllocGlobal + Print, L: HearsAny>(
     rt: &R,
     alloc: Global,
-    cache: &Numbers,
+    cache: &Numbers<L>,
     many: u64,
 ) -> io::Result<()> {
     let stored = cache.fill(rt, many)?;
@@ -138,10 +139,10 @@ fn come_and_go<R: Wait + RandomSource + AllocGlobal + Print>(
 }
 
 /// Takes the keys below a number out. Tells how many of the calls answered.
-fn take_below<R: Wait + RandomSource + AllocGlobal>(
+fn take_below<R: Wait + RandomSource + AllocGlobal, L: HearsAny>(
     rt: &R,
     alloc: Global,
-    cache: &Numbers,
+    cache: &Numbers<L>,
     many: u64,
 ) -> io::Result<u64> {
     let keys = keys_below(alloc, many)?;
@@ -150,15 +151,15 @@ fn take_below<R: Wait + RandomSource + AllocGlobal>(
 }
 
 /// Makes so many loads over so many keys, which are all under way at once.
-fn load_at_once<'a, R: Wait + RandomSource + AllocGlobal + Print>(
+fn load_at_once<'a, R: Wait + RandomSource + AllocGlobal + Print, L: HearsAny>(
     rt: &R,
     alloc: Global,
-    cache: &'a Numbers,
+    cache: &'a Numbers<L>,
     keys: u64,
     calls: u64,
 ) -> io::Result<()> {
     let rounds = Rounds::below(cache, keys).made(Kind::GetWith, Way::Dropped);
-    call_at_once::<R, NumberCall<'a, ToLoad<'a, u64>, ByInit<Later<u64>>>, Rounds<'a>>(
+    call_at_once::<R, NumberCall<'a, ToLoad<'a, u64>, ByInit<Later<u64>>, L>, Rounds<'a, L>>(
         rt, alloc, &rounds, calls,
     )
 }

@@ -22,6 +22,8 @@ mod works;
 
 use asked::Asked;
 use cached::come_and_store;
+use heard::{HearsAny, heard, unheard};
+use numbers::Numbers;
 use std::alloc::{AllocGlobal, Global};
 use std::collections::HashMap;
 use std::io;
@@ -90,22 +92,27 @@ fn measure_job<R: Threads + Wait + RandomSource + AllocGlobal + Clock + Print + 
 ) -> io::Result<()> {
     match job.peer {
         Peer::Map => time(rt, alloc, &Mutex::new(HashMap::new(alloc)), asked, job),
-        _ => use_cache(rt, alloc, asked, job),
+        Peer::Heard => use_cache(rt, alloc, &heard(alloc)?, asked, job),
+        _ => use_cache(rt, alloc, &unheard(alloc, job.peer)?, asked, job),
     }
 }
 
-/// Does it with a cache.
-fn use_cache<R: Threads + Wait + RandomSource + AllocGlobal + Clock + Print + Eprint + Sync>(
+/// Does it with this cache.
+fn use_cache<R, L>(
     rt: &R,
     alloc: Global,
+    cache: &Numbers<L>,
     asked: &Asked,
     job: Job,
-) -> io::Result<()> {
-    let cache = heard::empty(alloc, job.peer)?;
+) -> io::Result<()>
+where
+    R: Threads + Wait + RandomSource + AllocGlobal + Clock + Print + Eprint + Sync,
+    L: HearsAny + Send + Sync,
+{
     match job.work {
         Work::Burst(burst) => {
-            come_and_store(rt, alloc, &cache, burst, asked.calls(), asked.few_keys())
+            come_and_store(rt, alloc, cache, burst, asked.calls(), asked.few_keys())
         }
-        _ => time(rt, alloc, &cache, asked, job),
+        _ => time(rt, alloc, cache, asked, job),
     }
 }

@@ -8,21 +8,21 @@ ghost use Rattle.moka_cache.specs.Starts.{called};
 ghost use Rattle.moka_cache.specs.Suits.{Tells};
 ghost use Rattle.moka_cache.specs.declared.stage.Stage.TheVariants as Stage;
 
-use crate::heard::Counts;
+use crate::heard::HearsAny;
 use futures::task::{Context, Poll};
 use moka_cache::{Asked, Begin, Cache, CacheCall, PollError, State};
 use std::sync::Wait;
 
-/// A cache of numbers, with a listener or without one.
-pub(crate) type Numbers = Cache<u64, u64, u64, Counts>;
+/// A cache of numbers, with this listener or without one.
+pub(crate) type Numbers<L> = Cache<u64, u64, u64, L>;
 
 /// A call of such a cache.
-pub(crate) type Call<'a, A, Q> = CacheCall<'a, A, u64, u64, u64, Q, Counts>;
+pub(crate) type Call<'a, A, Q, L> = CacheCall<'a, A, u64, u64, u64, Q, L>;
 
 /// Where calls of such a cache come from.
-pub(crate) trait Makes<'a, A: Begin<u64, u64, u64>, Q: Asked<u64, u64, u64>> {
+pub(crate) trait Makes<'a, A: Begin<u64, u64, u64>, Q: Asked<u64, u64, u64>, L> {
     /// The call of this round, which may be run.
-    fn make(&self, round: u64) -> Call<'a, A, Q>
+    fn make(&self, round: u64) -> Call<'a, A, Q, L>
         ensures may { MayPoll result.stage }
         ensures asks { Q.can_poll result.asked }
         ensures tells { Tells nat_eq (Q.gives result.asked) (called (rules_of result.cache.now)
@@ -30,14 +30,14 @@ pub(crate) trait Makes<'a, A: Begin<u64, u64, u64>, Q: Asked<u64, u64, u64>> {
 }
 
 /// A call of such a cache, as a state.
-pub(crate) struct NumberCall<'a, A, Q> {
-    call: Call<'a, A, Q>,
+pub(crate) struct NumberCall<'a, A, Q, L> {
+    call: Call<'a, A, Q, L>,
 }
 
 /// The call as a state, where it may be run.
-pub(crate) fn numbers<'a, A: Begin<u64, u64, u64>, Q: Asked<u64, u64, u64>>(
-    call: Call<'a, A, Q>,
-) -> NumberCall<'a, A, Q>
+pub(crate) fn numbers<'a, A: Begin<u64, u64, u64>, Q: Asked<u64, u64, u64>, L>(
+    call: Call<'a, A, Q, L>,
+) -> NumberCall<'a, A, Q, L>
     requires may { MayPoll call.stage }
     requires asks { Q.can_poll call.asked }
     requires tells { Tells nat_eq (Q.gives call.asked) (called (rules_of call.cache.now) A.start)
@@ -50,11 +50,12 @@ pub(crate) fn numbers<'a, A: Begin<u64, u64, u64>, Q: Asked<u64, u64, u64>>(
     NumberCall { call }
 }
 
-impl<R, A, Q> State<R> for NumberCall<'_, A, Q>
+impl<R, A, Q, L> State<R> for NumberCall<'_, A, Q, L>
 where
     R: Wait,
     A: Begin<u64, u64, u64>,
     Q: Asked<u64, u64, u64>,
+    L: HearsAny,
 {
     type Output = A::Output;
 

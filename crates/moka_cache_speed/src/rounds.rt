@@ -1,6 +1,7 @@
 //! Where the calls of each kind come from.
 
 use crate::calls::Begins;
+use crate::heard::HearsAny;
 use crate::later::{Later, MayFail, Puts};
 use crate::numbers::{Call, Makes, NumberCall, Numbers, numbers};
 use crate::ways::{Kind, Way};
@@ -16,9 +17,9 @@ pub(crate) type Optional = Later<Option<u64>>;
 pub(crate) type Tried = Later<Result<u64, u64>>;
 
 /// The rounds of a thread: a cache, and what its calls are made of.
-#[derive(Clone, Copy)]
-pub(crate) struct Rounds<'a> {
-    pub(crate) cache: &'a Numbers,
+#[derive(Drop)]
+pub(crate) struct Rounds<'a, L> {
+    pub(crate) cache: &'a Numbers<L>,
     /// The keys that are lent, and the one that is where there are none.
     lent: &'a [u64],
     other: &'a u64,
@@ -32,9 +33,9 @@ pub(crate) struct Rounds<'a> {
     pub(crate) otherwise: bool,
 }
 
-impl<'a> Rounds<'a> {
+impl<'a, L: HearsAny> Rounds<'a, L> {
     /// Rounds of this thread over these keys: each call's is another, far from the one before.
-    pub(crate) fn over(cache: &'a Numbers, lent: &'a [u64], thread: u64) -> Self {
+    pub(crate) fn over(cache: &'a Numbers<L>, lent: &'a [u64], thread: u64) -> Self {
         Rounds {
             cache,
             lent,
@@ -48,14 +49,14 @@ impl<'a> Rounds<'a> {
     }
 
     /// Rounds over these keys, one after the other.
-    pub(crate) fn in_order(cache: &'a Numbers, lent: &'a [u64]) -> Self {
+    pub(crate) fn in_order(cache: &'a Numbers<L>, lent: &'a [u64]) -> Self {
         let mut rounds = Rounds::over(cache, lent, 0);
         rounds.step = 1;
         rounds
     }
 
     /// Rounds over the keys below a number, one after the other. None is lent.
-    pub(crate) fn below(cache: &'a Numbers, keys: u64) -> Self {
+    pub(crate) fn below(cache: &'a Numbers<L>, keys: u64) -> Self {
         let mut rounds = Rounds::in_order(cache, &[]);
         rounds.keys = keys;
         rounds
@@ -63,10 +64,11 @@ impl<'a> Rounds<'a> {
 
     /// Rounds over these keys, for calls of this kind that are made in this way.
     pub(crate) fn made(&self, kind: Kind, way: Way) -> Self {
-        let mut rounds = *self;
-        rounds.pends = way.pends();
-        rounds.otherwise = kind.is_otherwise();
-        rounds
+        Rounds {
+            pends: way.pends(),
+            otherwise: kind.is_otherwise(),
+            ..*self
+        }
     }
 
     /// The key of a round.
@@ -112,66 +114,68 @@ impl<'a> Rounds<'a> {
 }
 
 /// Its calls as states.
-impl<'a, R, A, Q> Begins<R, NumberCall<'a, A, Q>> for Rounds<'a>
+impl<'a, R, A, Q, L> Begins<R, NumberCall<'a, A, Q, L>> for Rounds<'a, L>
 where
     R: Wait,
     A: Begin<u64, u64, u64>,
     Q: Asked<u64, u64, u64>,
-    Rounds<'a>: Makes<'a, A, Q>,
+    L: HearsAny,
+    Rounds<'a, L>: Makes<'a, A, Q, L>,
 {
-    fn begin(&self, round: u64) -> NumberCall<'a, A, Q> {
+    fn begin(&self, round: u64) -> NumberCall<'a, A, Q, L> {
         numbers(self.make(round))
     }
 }
 
-impl<'a> Makes<'a, ToGet<'a, u64>, Nobody> for Rounds<'a> {
-    fn make(&self, round: u64) -> Call<'a, ToGet<'a, u64>, Nobody> {
+impl<'a, L: HearsAny> Makes<'a, ToGet<'a, u64>, Nobody, L> for Rounds<'a, L> {
+    fn make(&self, round: u64) -> Call<'a, ToGet<'a, u64>, Nobody, L> {
         self.cache.get(self.lent(round))
     }
 }
 
-impl<'a> Makes<'a, ToInsert<u64, u64>, Nobody> for Rounds<'a> {
-    fn make(&self, round: u64) -> Call<'a, ToInsert<u64, u64>, Nobody> {
+impl<'a, L: HearsAny> Makes<'a, ToInsert<u64, u64>, Nobody, L> for Rounds<'a, L> {
+    fn make(&self, round: u64) -> Call<'a, ToInsert<u64, u64>, Nobody, L> {
         self.cache.insert(self.key(round), round)
     }
 }
 
-impl<'a> Makes<'a, ToRemove<'a, u64>, Nobody> for Rounds<'a> {
-    fn make(&self, round: u64) -> Call<'a, ToRemove<'a, u64>, Nobody> {
+impl<'a, L: HearsAny> Makes<'a, ToRemove<'a, u64>, Nobody, L> for Rounds<'a, L> {
+    fn make(&self, round: u64) -> Call<'a, ToRemove<'a, u64>, Nobody, L> {
         self.cache.remove(self.lent(round))
     }
 }
 
-impl<'a> Makes<'a, ToLoad<'a, u64>, ByInit<Later<u64>>> for Rounds<'a> {
-    fn make(&self, round: u64) -> Call<'a, ToLoad<'a, u64>, ByInit<Later<u64>>> {
+impl<'a, L: HearsAny> Makes<'a, ToLoad<'a, u64>, ByInit<Later<u64>>, L> for Rounds<'a, L> {
+    fn make(&self, round: u64) -> Call<'a, ToLoad<'a, u64>, ByInit<Later<u64>>, L> {
         let key = self.key(round);
         self.cache.get_with(key, self.value(key))
     }
 }
 
-impl<'a> Makes<'a, ToLoadOptionally<'a, u64>, ByOptionalInit<Optional>> for Rounds<'a> {
-    fn make(&self, round: u64) -> Call<'a, ToLoadOptionally<'a, u64>, ByOptionalInit<Optional>> {
+impl<'a, L: HearsAny> Makes<'a, ToLoadOptionally<'a, u64>, ByOptionalInit<Optional>, L>
+    for Rounds<'a, L> {
+    fn make(&self, round: u64) -> Call<'a, ToLoadOptionally<'a, u64>, ByOptionalInit<Optional>, L> {
         let key = self.key(round);
         self.cache.optionally_get_with(key, self.option(key))
     }
 }
 
-impl<'a> Makes<'a, ToTryLoad<'a, u64>, ByTryInit<Tried>> for Rounds<'a> {
-    fn make(&self, round: u64) -> Call<'a, ToTryLoad<'a, u64>, ByTryInit<Tried>> {
+impl<'a, L: HearsAny> Makes<'a, ToTryLoad<'a, u64>, ByTryInit<Tried>, L> for Rounds<'a, L> {
+    fn make(&self, round: u64) -> Call<'a, ToTryLoad<'a, u64>, ByTryInit<Tried>, L> {
         let key = self.key(round);
         self.cache.try_get_with(key, self.result(key))
     }
 }
 
-impl<'a> Makes<'a, ToInsertEntry<'a, u64, u64>, Nobody> for Rounds<'a> {
-    fn make(&self, round: u64) -> Call<'a, ToInsertEntry<'a, u64, u64>, Nobody> {
+impl<'a, L: HearsAny> Makes<'a, ToInsertEntry<'a, u64, u64>, Nobody, L> for Rounds<'a, L> {
+    fn make(&self, round: u64) -> Call<'a, ToInsertEntry<'a, u64, u64>, Nobody, L> {
         let key = self.key(round);
         self.cache.entry(key).or_insert(key)
     }
 }
 
-impl<'a> Makes<'a, ToCompute<'a, u64>, ByCompute<Puts>> for Rounds<'a> {
-    fn make(&self, round: u64) -> Call<'a, ToCompute<'a, u64>, ByCompute<Puts>> {
+impl<'a, L: HearsAny> Makes<'a, ToCompute<'a, u64>, ByCompute<Puts>, L> for Rounds<'a, L> {
+    fn make(&self, round: u64) -> Call<'a, ToCompute<'a, u64>, ByCompute<Puts>, L> {
         let key = self.key(round);
         self.cache
             .entry(key)
@@ -179,8 +183,8 @@ impl<'a> Makes<'a, ToCompute<'a, u64>, ByCompute<Puts>> for Rounds<'a> {
     }
 }
 
-impl<'a> Makes<'a, ToTryCompute<'a, u64>, ByCompute<MayFail>> for Rounds<'a> {
-    fn make(&self, round: u64) -> Call<'a, ToTryCompute<'a, u64>, ByCompute<MayFail>> {
+impl<'a, L: HearsAny> Makes<'a, ToTryCompute<'a, u64>, ByCompute<MayFail>, L> for Rounds<'a, L> {
+    fn make(&self, round: u64) -> Call<'a, ToTryCompute<'a, u64>, ByCompute<MayFail>, L> {
         let key = self.key(round);
         self.cache
             .entry(key)
@@ -188,8 +192,8 @@ impl<'a> Makes<'a, ToTryCompute<'a, u64>, ByCompute<MayFail>> for Rounds<'a> {
     }
 }
 
-impl<'a> Makes<'a, ToUpsert<'a, u64>, ByUpsert<Puts>> for Rounds<'a> {
-    fn make(&self, round: u64) -> Call<'a, ToUpsert<'a, u64>, ByUpsert<Puts>> {
+impl<'a, L: HearsAny> Makes<'a, ToUpsert<'a, u64>, ByUpsert<Puts>, L> for Rounds<'a, L> {
+    fn make(&self, round: u64) -> Call<'a, ToUpsert<'a, u64>, ByUpsert<Puts>, L> {
         let key = self.key(round);
         self.cache.entry(key).and_upsert_with(Puts(self.value(key)))
     }

@@ -1,4 +1,4 @@
-//! What two calls of a cache answer.
+//! The runtime of a use, and what two calls of a cache answer.
 
 use futures::executor::block_on;
 use futures::future::join;
@@ -8,18 +8,26 @@ use std::io;
 use std::random::RandomSource;
 use std::sync::Wait;
 
-/// What two calls of one kind answered.
-pub(crate) type Both<T> = (Result<T, PollError>, Result<T, PollError>);
+/// A runtime that calls of a cache may wait with, and that prints.
+pub(crate) trait Runtime: Wait + RandomSource + AllocGlobal + Print {}
 
-/// Runs two calls of one kind to their answers, in one task.
-pub(crate) fn both<R, S>(rt: &R, one: S, other: S) -> io::Result<Both<S::Output>>
+impl<R: Wait + RandomSource + AllocGlobal + Print> Runtime for R {}
+
+/// What two calls answered.
+pub(crate) type Both<A, B> = (Result<A, PollError>, Result<B, PollError>);
+
+/// Runs two calls to their answers, in one task.
+pub(crate) fn both<R: Runtime, A, B>(
+    rt: &R,
+    one: A,
+    other: B,
+) -> io::Result<Both<A::Output, B::Output>>
 where
-    R: Wait + RandomSource + AllocGlobal,
-    S: State<R, Output: Drop>,
-    requires one { S.can_poll one }
-    requires other { S.can_poll other }
+    A: State<R, Output: Drop>,
+    B: State<R, Output: Drop>,
+    requires one { A.can_poll one }
+    requires other { B.can_poll other }
 {
     let one = Polled::new(rt, one, 0);
-    let other = Polled::new(rt, other, 0);
-    block_on(rt, join(one, other))
+    block_on(rt, join(one, Polled::new(rt, other, 0)))
 }

@@ -1,29 +1,16 @@
 //! One load for two callers.
 
-use crate::answers::{Both, both};
+use crate::answers::{Runtime, both};
 use crate::sources::After;
-use moka_cache::{Cache, RetriesExhausted};
-use std::alloc::{AllocGlobal, Global};
+use futures::future::ready;
+use moka_cache::Cache;
+use std::alloc::Global;
 use std::io;
-use std::random::RandomSource;
-use std::sync::Wait;
 
 /// Two callers miss key 1 at once: the first one's source is asked, and both get what it gives.
-fn load_twice<'a, R: Wait + RandomSource + AllocGlobal>(
-    rt: &'a R,
-    cache: &'a Cache<u32, u32>,
-) -> io::Result<Both<Result<u32, RetriesExhausted>>> {
+pub(crate) fn show<R: Runtime>(rt: &R, alloc: Global) -> io::Result<()> {
+    let cache: Cache<u32, u32> = Cache::new(alloc, 100)?;
     let first = cache.get_with(1, After { polls: 2, gives: 9 });
-    let second = cache.get_with(1, After { polls: 2, gives: 8 });
-    both(rt, first, second)
-}
-
-/// Loads a key for two callers at once.
-pub(crate) fn show<R: Wait + RandomSource + AllocGlobal + Print>(
-    rt: &R,
-    alloc: Global,
-) -> io::Result<()> {
-    let cache = Cache::new(alloc, 100)?;
-    let (first, second) = load_twice(rt, &cache)?;
+    let (first, second) = both(rt, first, cache.get_with(1, ready(8)))?;
     println!(rt; "one load: {first:?} and {second:?}")
 }

@@ -11,17 +11,16 @@ mod pages;
 mod settings;
 mod sources;
 
-use std::alloc::{AllocGlobal, Global};
+use crate::answers::Runtime;
+use std::alloc::Global;
 use std::io;
-use std::random::RandomSource;
-use std::sync::Wait;
 
 fn main(rt: HostRuntime) -> io::Result<()> {
     show_all(&rt, rt.alloc())
 }
 
 /// Runs each use in a cache of its own, and prints what it answers.
-fn show_all<R: Wait + RandomSource + AllocGlobal + Print>(rt: &R, alloc: Global) -> io::Result<()> {
+fn show_all<R: Runtime>(rt: &R, alloc: Global) -> io::Result<()> {
     first::show(rt, alloc)?;
     memo::show(rt, alloc)?;
     settings::show(rt, alloc)?;

@@ -2,13 +2,12 @@
 ghost use Rattle.std.specs.Prelude.{◌≡◌, ◌*◌, IfOk};
 ghost use Rattle.std.proofs.Common.{rules};
 
+use crate::answers::Runtime;
 use futures::future::lazy;
 use moka_cache::Cache;
 use moka_values::Exact;
-use std::alloc::{AllocGlobal, Global};
+use std::alloc::Global;
 use std::io;
-use std::random::RandomSource;
-use std::sync::Wait;
 use std::sync::atomic::{AtomicU64, Ordering};
 
 /// A number, and its square.
@@ -27,24 +26,18 @@ impl Square {
     fn of(root: u32) -> Square
         ensures { result.root ≡ root }
     {
-        let side = u64::from(root);
-        Square {
-            root,
-            area: side * side,
-        }
+        let area = u64::from(root) * u64::from(root);
+        Square { root, area }
     }
 }
 
-/// Squares by their roots.
-type Memo = Cache<u32, Square>;
-
 /// The square of a number, taken from the table where it is there. Whatever the table gives, it is
 /// the square: each of its values says so, and of which number.
-fn squared<'a, R: Wait + RandomSource + AllocGlobal>(
-    rt: &'a R,
-    memo: &'a Memo,
+fn squared<R: Runtime>(
+    rt: &R,
+    memo: &Cache<u32, Square>,
     root: u32,
-    loads: &'a AtomicU64,
+    loads: &AtomicU64,
 ) -> io::Result<u64>
     ensures { IfOk result (λ area. area ≡ root * root) }
 {
@@ -68,10 +61,7 @@ fn area_of(found: Square, root: u32) -> u64
 }
 
 /// Squares a number twice.
-pub(crate) fn show<R: Wait + RandomSource + AllocGlobal + Print>(
-    rt: &R,
-    alloc: Global,
-) -> io::Result<()> {
+pub(crate) fn show<R: Runtime>(rt: &R, alloc: Global) -> io::Result<()> {
     let memo = Cache::new(alloc, 100)?;
     let loads = AtomicU64::new(0);
     let first = squared(rt, &memo, 7, &loads)?;

@@ -1,7 +1,7 @@
 //! Where values come from.
 
+use futures::Future;
 use futures::task::{Context, Poll};
-use moka_cache::Init;
 
 /// Gives what it has once it was polled so often in vain.
 #[derive(Drop)]
@@ -10,7 +10,9 @@ pub(crate) struct After<T> {
     pub(crate) gives: T,
 }
 
-impl<T: Copy + Drop> Init<T> for After<T> {
+impl<T: Copy + Drop> Future for After<T> {
+    type Output = T;
+
     fn poll(&mut self, cx: &mut Context<'_>) -> Poll<T> {
         if self.polls == 0 {
             return Poll::Ready(self.gives);

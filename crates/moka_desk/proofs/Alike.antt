@@ -8,7 +8,7 @@ use Rattle.moka_hist.specs.declared.rules.Rules.{Rules}
 use Rattle.moka_hist.specs.declared.rules.Times.{Times}
 use Rattle.moka_hist.specs.declared.rules.Cause.{Cause}
 use Rattle.moka_hist.specs.declared.rules.Cause.TheVariants.{Expired, Explicit, Replaced, Size}
-use Rattle.moka_desk.specs.Moments.{AreAlike, reads_moments}
+use Rattle.moka_desk.specs.Moments.{AreAlike}
 
 past_alike : (idle : Option Duration) (a b c d : ℕ) → c ≡ d → (is_some idle ≡ true → a ≡ b) → is_past idle a c ≡ is_past idle b d
 past_alike None a b c d e h = refl

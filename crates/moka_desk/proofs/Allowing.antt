@@ -3,6 +3,8 @@ use Rattle.std.proofs.Common.{◌≡◌, ℕ, ◌==◌, Bool, true, false, cond,
 use Rattle.std.specs.HashMap.{get}
 use Rattle.std.specs.declared.cmp.PartialEq as PartialEq
 use Rattle.std.specs.declared.hash.Hash as Hash
+use Rattle.std.specs.declared.hash.Hasher as Hasher
+use Rattle.std.specs.declared.hash.BuildHasher as BuildHasher
 use Rattle.std.proofs.lemmas.Bool.{eqb-false}
 use Rattle.moka_hist.specs.Conditions.{IsUnused}
 use Rattle.moka_hist.specs.Finite.{put_at}
@@ -15,7 +17,7 @@ use Rattle.moka_desk.specs.declared.state.Desk.{Desk}
 use Rattle.moka_desk.proofs.Noticed.{unopened_past, unopened_running}
 use Rattle.moka_desk.proofs.Sounding.{sound_apart, sound_holder, sound_once}
 
-module _ {K V E : Type 0} {same : PartialEq.Ghosts K} {hash : Hash.Ghosts K} (eq : K → K → Bool) (desk : Desk K V E same hash) (w : DeskPart K V E) (h : StandsFor eq desk w) where
+module _ {K V E S H : Type 0} {same : PartialEq.Ghosts K} {hash : Hash.Ghosts K} {build : BuildHasher.Ghosts S H} {hasher : Hasher.Ghosts H} (eq : K → K → Bool) (desk : Desk K V E S H same hash build hasher) (w : DeskPart K V E) (h : StandsFor eq desk w) where
   -- the state itself
   pub alike_same : (P : DeskPart K V E → Type 0) → P w → AllowsAlike eq desk w P
   alike_same P holds = record { applied = w.applied; notices = w.notices; stands = h; sound = λ s. s; holds = holds }

@@ -4,7 +4,7 @@ use Rattle.std.proofs.Math.Bool.{and-false, or-false}
 use Rattle.std.proofs.lemmas.Bool.{eqb-true}
 use Rattle.std.specs.HashSet.{contains, hash_set_len, keys}
 use Rattle.std.specs.List.{list_any}
-use Rattle.moka_hist.specs.Visits.{number_of, old_of, is_upsert, is_replaced}
+use Rattle.moka_hist.specs.Visits.{old_of, is_replaced}
 use Rattle.moka_hist.specs.declared.writes.Write.{Write}
 use Rattle.moka_hist.specs.declared.writes.Write.TheVariants.{Upsert, Remove}
 use Rattle.moka_desk.proofs.Standing.{but_then, count_then, falling_is, gone_then, made_then}

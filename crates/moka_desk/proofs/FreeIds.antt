@@ -1,5 +1,5 @@
 -- The first free id of a stream, among ids that are numbered from elsewhere.
-use Rattle.std.proofs.Common.{◌≡◌, ◌<◌, ◌+◌, ◌-◌, ℕ, zero, suc, Bool, true, false, cond, List, Option, Some, arith, refl, ap, ◌∙◌, subst}
+use Rattle.std.proofs.Common.{◌≡◌, ◌<◌, ◌+◌, ◌-◌, ℕ, zero, suc, Bool, true, false, cond, List, Some, arith, refl, ap, ◌∙◌, subst}
 use Rattle.std.specs.Option.{option_map}
 use Rattle.moka_hist.specs.Visits.{free_id, is_registered}
 use Rattle.moka_hist.specs.declared.predicates.Registered.{Registered}

@@ -1,8 +1,7 @@
 -- How often numbers stand among what is owed, logged and applied.
-use Rattle.std.proofs.Common.{◌≡◌, ◌≢◌, ℕ, ◌+◌, ◌≤◌, ◌==◌, Bool, true, false, not, cond, ◌||◌, nat_lt, List, [], ◌∷◌, ◌++◌, map, Option, Some, None, is_some, refl, sym, ap, ◌∙◌, arith}
+use Rattle.std.proofs.Common.{◌≡◌, ◌≢◌, ℕ, ◌+◌, ◌≤◌, ◌==◌, Bool, true, false, cond, List, [], ◌∷◌, ◌++◌, map, Option, Some, None, is_some, refl, sym, ap, ◌∙◌, arith}
 use Rattle.std.proofs.lemmas.List.{map-append}
 use Rattle.std.proofs.lemmas.Bool.{eqb-true, eqb-false}
-use Rattle.std.proofs.lemmas.Bool.Decides.{nat_tests}
 use Rattle.moka_hist.specs.Finite.{times}
 use Rattle.moka_hist.specs.Visits.{number_of}
 use Rattle.moka_hist.specs.Conditions.{held_number}
@@ -10,7 +9,6 @@ use Rattle.moka_hist.specs.declared.writes.Holding.{Holding}
 use Rattle.moka_hist.specs.declared.writes.Owed.{Owed}
 use Rattle.moka_hist.specs.declared.writes.Write.{Write}
 use Rattle.moka_sync.proofs.Stands.{times-append}
-use Rattle.moka_desk.proofs.WhoHolds.{same_number}
 use Rattle.moka_desk.specs.Held.{holds_number, is_holder, owed_at, owed_numbers}
 
 -- how often a number stands in two lists together

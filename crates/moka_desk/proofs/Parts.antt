@@ -2,6 +2,8 @@
 use Rattle.std.proofs.Common.{ℕ, Bool, Option, Some, None}
 use Rattle.std.specs.declared.cmp.PartialEq as PartialEq
 use Rattle.std.specs.declared.hash.Hash as Hash
+use Rattle.std.specs.declared.hash.Hasher as Hasher
+use Rattle.std.specs.declared.hash.BuildHasher as BuildHasher
 use Rattle.moka_hist.specs.State.{DeskPart}
 use Rattle.moka_hist.specs.Visits.{claimed, claimed_alone}
 use Rattle.moka_hist.specs.declared.loads.Load.{Load}
@@ -11,8 +13,8 @@ use Rattle.moka_desk.specs.declared.loads.Loads.{Loads}
 use Rattle.moka_desk.specs.declared.state.Desk.{Desk}
 
 -- the loads change as a claim does
-pub claim_stands : {K V E : Type 0} {same : PartialEq.Ghosts K} {hash : Hash.Ghosts K} (eq : K → K → Bool) (desk : Desk K V E same hash) (w : DeskPart K V E) → StandsFor eq desk w →
-    (call : ℕ) (load : Load K) (owner : Option ℕ) (loads : Loads K V E same hash) → LoadsAre eq loads (load_part (claimed eq w call load owner)) →
+pub claim_stands : {K V E S H : Type 0} {same : PartialEq.Ghosts K} {hash : Hash.Ghosts K} {build : BuildHasher.Ghosts S H} {hasher : Hasher.Ghosts H} (eq : K → K → Bool) (desk : Desk K V E S H same hash build hasher) (w : DeskPart K V E) → StandsFor eq desk w →
+    (call : ℕ) (load : Load K) (owner : Option ℕ) (loads : Loads K V E S H same hash build hasher) → LoadsAre eq loads (load_part (claimed eq w call load owner)) →
     StandsFor eq (record desk { loads = loads }) (claimed eq w call load owner)
 claim_stands eq desk w h call load None loads are = record {
   rules = h.rules;
@@ -46,8 +48,8 @@ claim_stands eq desk w h call load (Some owner) loads are = record {
 }
 
 -- the loads change as a claim does that waits for nobody
-pub alone_stands : {K V E : Type 0} {same : PartialEq.Ghosts K} {hash : Hash.Ghosts K} (eq : K → K → Bool) (desk : Desk K V E same hash) (w : DeskPart K V E) → StandsFor eq desk w →
-    (call : ℕ) (load : Load K) (owner : Option ℕ) (loads : Loads K V E same hash) → LoadsAre eq loads (load_part (claimed_alone eq w call load owner)) →
+pub alone_stands : {K V E S H : Type 0} {same : PartialEq.Ghosts K} {hash : Hash.Ghosts K} {build : BuildHasher.Ghosts S H} {hasher : Hasher.Ghosts H} (eq : K → K → Bool) (desk : Desk K V E S H same hash build hasher) (w : DeskPart K V E) → StandsFor eq desk w →
+    (call : ℕ) (load : Load K) (owner : Option ℕ) (loads : Loads K V E S H same hash build hasher) → LoadsAre eq loads (load_part (claimed_alone eq w call load owner)) →
     StandsFor eq (record desk { loads = loads }) (claimed_alone eq w call load owner)
 alone_stands eq desk w h call load None loads are = claim_stands eq desk w h call load None loads are
 alone_stands eq desk w h call load (Some owner) loads are = record {

@@ -1,9 +1,9 @@
 -- A desk without a history stands for states where a number that it doesn't recall was not applied.
-use Rattle.std.proofs.Common.{◌≡◌, ℕ, suc, ◌+◌, ◌≤◌, ◌<◌, ◌==◌, Bool, true, false, not, cond, ◌&&◌, ◌||◌, List, ◌++◌, map, nat_eq, Option, Some, None, is_some, refl, sym, ap, ◌∙◌, subst, arith}
+use Rattle.std.proofs.Common.{◌≡◌, ℕ, suc, ◌+◌, ◌≤◌, ◌==◌, Bool, true, false, not, cond, ◌&&◌, ◌||◌, List, map, nat_eq, None, is_some, refl, sym, ap, ◌∙◌, subst, arith}
 use Rattle.std.proofs.Math.Bool.{and-false}
 use Rattle.std.proofs.lemmas.Bool.{eqb-true}
 use Rattle.std.specs.HashMap.{get}
-use Rattle.std.specs.HashSet.{contains, hash_set_len, keys}
+use Rattle.std.specs.HashSet.{contains, keys}
 use Rattle.moka_hist.specs.Finite.{times}
 use Rattle.moka_hist.specs.Visits.{is_replaced, number_of}
 use Rattle.moka_hist.specs.declared.writes.Write.{Write}
@@ -12,7 +12,7 @@ use Rattle.moka_desk.specs.Records.{RecordsAre, count_of, is_made, standing_but}
 use Rattle.moka_desk.specs.Writes.{ForgetsIn, IsUnusedIn, WritePart, WritesAre}
 use Rattle.moka_desk.specs.declared.records.Records.{Records}
 use Rattle.moka_desk.specs.declared.writes.Writes.{Writes}
-use Rattle.moka_desk.proofs.Forgetting.{count_still, fewer_times, forget, gone_still, greater, made_still, no_key, no_time, none_left, not_in, standing_still, still_gone, total, total_keys}
+use Rattle.moka_desk.proofs.Forgetting.{count_still, fewer_times, forget, gone_still, made_still, no_key, no_time, none_left, not_in, standing_still, total, total_keys}
 use Rattle.moka_desk.proofs.Numbers.{none_in_both, still_once}
 use Rattle.moka_desk.proofs.Owing.{held_by_none, stands_nowhere}
 

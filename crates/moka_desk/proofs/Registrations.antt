@@ -1,5 +1,5 @@
 -- What the registration of a predicate finds and makes, by the number of the first free id among those to come.
-use Rattle.std.proofs.Common.{◌≡◌, ◌+◌, ℕ, suc, Bool, true, false, ◌∷◌, [], ◌++◌, Option, Some, None, Ok, Err, arith, refl, sym, ap, ◌∙◌}
+use Rattle.std.proofs.Common.{◌≡◌, ◌+◌, ℕ, suc, Bool, true, false, ◌∷◌, [], ◌++◌, Option, Some, None, Ok, Err, arith, sym, ap, ◌∙◌}
 use Rattle.std.specs.Option.{option_map, option_map_or}
 use Rattle.moka_hist.specs.State.{DeskPart}
 use Rattle.moka_hist.specs.Visits.{drawn_by, registered_by, registering_by}

@@ -1,5 +1,5 @@
 -- What a desk stands for is sound, as far as writes go.
-use Rattle.std.proofs.Common.{◌≡◌, ℕ, ◌+◌, ◌≤◌, ◌==◌, Bool, true, false, cond, ◌||◌, List, ◌++◌, map, nat_eq, Option, Some, None, is_some, refl, sym, ap, ◌∙◌, subst, arith}
+use Rattle.std.proofs.Common.{◌≡◌, ℕ, ◌+◌, ◌≤◌, Bool, true, false, cond, ◌||◌, ◌++◌, map, nat_eq, Option, Some, None, is_some, refl, sym, ap, ◌∙◌, subst, arith}
 use Rattle.std.proofs.lemmas.Bool.{eqb-true}
 use Rattle.std.specs.HashMap.{get}
 use Rattle.std.specs.HashSet.{contains}
@@ -7,7 +7,7 @@ use Rattle.moka_hist.specs.Conditions.{held_number}
 use Rattle.moka_hist.specs.Finite.{times}
 use Rattle.moka_hist.specs.Visits.{number_of}
 use Rattle.moka_hist.specs.declared.writes.Holding.{Holding}
-use Rattle.moka_desk.specs.Held.{held_by, holds_number, is_holder, owed_at, owed_numbers}
+use Rattle.moka_desk.specs.Held.{holds_number, is_holder, owed_at, owed_numbers}
 use Rattle.moka_desk.specs.Writes.{WritePart, WritesAre}
 use Rattle.moka_desk.specs.declared.writes.Writes.{Writes}
 use Rattle.moka_desk.proofs.Owing.{times_of_both}

@@ -2,6 +2,8 @@
 use Rattle.std.specs.Prelude.{◌≡◌, ◌≢◌, ℕ, Bool, true, List, Some, IsSome, IsNone}
 use Rattle.std.specs.declared.cmp.PartialEq as PartialEq
 use Rattle.std.specs.declared.hash.Hash as Hash
+use Rattle.std.specs.declared.hash.Hasher as Hasher
+use Rattle.std.specs.declared.hash.BuildHasher as BuildHasher
 use Rattle.moka_hist.specs.State.{DeskPart}
 use Rattle.moka_hist.specs.Conditions.{MayVisit}
 use Rattle.moka_hist.specs.Visits.{is_running, makes}
@@ -17,8 +19,9 @@ EachListed line Is = (number call : ℕ) → waits call (line number) ≡ true �
 
 -- Each call that is listed misses that thing: another has the turn; it waits for an owner that has
 -- not settled; its ask is open; another holds a lock; the notice runs.
-pub record ListedMiss {K V E : Type 0} {same : PartialEq.Ghosts K} {hash : Hash.Ghosts K}
-    (desk : Desk K V E same hash) (w : DeskPart K V E) : Type 0 where
+pub record ListedMiss {K V E S H : Type 0} {same : PartialEq.Ghosts K} {hash : Hash.Ghosts K}
+    {build : BuildHasher.Ghosts S H} {hasher : Hasher.Ghosts H}
+    (desk : Desk K V E S H same hash build hasher) (w : DeskPart K V E) : Type 0 where
   pub turns : EachListed (turn_line desk) (λ n call. (w.turn ≡ Some n) × (n ≢ call))
   pub settlements : EachListed (settlement_line desk)
       (λ n call. (w.joined call ≡ Some n) × IsNone (w.settled n))
@@ -26,17 +29,20 @@ pub record ListedMiss {K V E : Type 0} {same : PartialEq.Ghosts K} {hash : Hash.
   pub locks : EachListed (lock_line desk) (λ n call. IsSome (w.locked n) × (n ≢ call))
   pub notices : EachListed (notice_line desk) (λ n call. is_running w n ≡ true)
 
-module _ {K V E : Type 0} {same : PartialEq.Ghosts K} {hash : Hash.Ghosts K} (eq : K → K → Bool)
+module _ {K V E S H : Type 0} {same : PartialEq.Ghosts K} {hash : Hash.Ghosts K}
+    {build : BuildHasher.Ghosts S H} {hasher : Hasher.Ghosts H} (eq : K → K → Bool)
   where
     -- where those that were listed missed their things, they do so once the state has changed like
     -- this
-    abbrev pub MissWith : Desk K V E same hash → (DeskPart K V E → DeskPart K V E) →
-        Desk K V E same hash → Type 0
+    abbrev pub MissWith : Desk K V E S H same hash build hasher →
+        (DeskPart K V E → DeskPart K V E) →
+        Desk K V E S H same hash build hasher → Type 0
     MissWith old change new =
         (w : DeskPart K V E) → StandsFor eq old w → ListedMiss old w → ListedMiss new (change w)
 
     -- and once the visit was made, in each state that allows it
-    abbrev pub MissAfter : Desk K V E same hash → Visit K V E → Desk K V E same hash → Type 0
+    abbrev pub MissAfter : Desk K V E S H same hash build hasher → Visit K V E →
+        Desk K V E S H same hash build hasher → Type 0
     MissAfter old visit new =
         (w : DeskPart K V E) → StandsFor eq old w → MayVisit w visit → ListedMiss old w →
         ListedMiss new (makes eq w visit)

@@ -15,7 +15,7 @@ lock_part w = record { locks = w.locks; locked = w.locked }
 
 -- The maps are those that are kept, and each call holds the lock of the key that it locked, and no
 -- other.
-pub record LocksAre {K : Type 0} (eq : K → K → Bool) (locks : Locks K) (p : LockPart K)
+pub record LocksAre {K S H : Type 0} (eq : K → K → Bool) (locks : Locks K S H) (p : LockPart K)
     : Type 0 where
   pub holders : (k : K) → get eq locks.holders k ≡ p.locks k
   pub locked : (n : ℕ) → get nat_eq locks.locked n ≡ p.locked n
@@ -23,7 +23,7 @@ pub record LocksAre {K : Type 0} (eq : K → K → Bool) (locks : Locks K) (p : 
   pub held : (k : K) (n : ℕ) → p.locked n ≡ Some k → p.locks k ≡ Some n
 
 -- the locks change as the part does, whatever they stand for
-abbrev pub LocksBecome : {K : Type 0} → (K → K → Bool) → Locks K → (LockPart K → LockPart K) →
-    Locks K → Type 0
+abbrev pub LocksBecome : {K S H : Type 0} → (K → K → Bool) → Locks K S H →
+    (LockPart K → LockPart K) → Locks K S H → Type 0
 LocksBecome {K} eq old change new =
     (p : LockPart K) → LocksAre eq old p → LocksAre eq new (change p)

@@ -1,5 +1,5 @@
 -- Which rules read when a record was last accessed, and by which times they judge it.
-use Rattle.std.specs.Prelude.{◌≡◌, ◌≤◌, ℕ, Bool, true, false, is_some}
+use Rattle.std.specs.Prelude.{◌≡◌, ◌≤◌, ℕ, Bool, true, is_some}
 use Rattle.moka_hist.specs.State.{DeskPart}
 use Rattle.moka_hist.specs.Visible.{is_visible}
 use Rattle.moka_hist.specs.Visits.{times_at}

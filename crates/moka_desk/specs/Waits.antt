@@ -3,6 +3,8 @@ use Rattle.std.specs.Prelude.{◌≡◌, ℕ, ◌==◌, cond, List, [], Option, 
 use Rattle.std.specs.HashMap.{get}
 use Rattle.std.specs.declared.cmp.PartialEq as PartialEq
 use Rattle.std.specs.declared.hash.Hash as Hash
+use Rattle.std.specs.declared.hash.Hasher as Hasher
+use Rattle.std.specs.declared.hash.BuildHasher as BuildHasher
 use Rattle.moka_hist.specs.declared.events.Told.{Told}
 use Rattle.moka_hist.specs.declared.events.Told.TheVariants as answer
 use Rattle.moka_sync.specs.Waiting.{without}
@@ -25,32 +27,33 @@ waits_at place call n calls = cond (is_at place n) (with_call call calls) (witho
 abbrev pub comes : ℕ → ℕ → List ℕ → List ℕ
 comes number n calls = cond (number == n) [] calls
 
-module _ {K V E : Type 0} {same : PartialEq.Ghosts K} {hash : Hash.Ghosts K} where
+module _ {K V E S H : Type 0} {same : PartialEq.Ghosts K} {hash : Hash.Ghosts K}
+    {build : BuildHasher.Ghosts S H} {hasher : Hasher.Ghosts H} where
   -- those that wait for the turn of this call, for how it settles, for its lock, for the end of its
   -- notice
-  abbrev pub turn_line : Desk K V E same hash → ℕ → List ℕ
+  abbrev pub turn_line : Desk K V E S H same hash build hasher → ℕ → List ℕ
   turn_line desk number = line_at desk.waits.turns.lists number
 
-  abbrev pub settlement_line : Desk K V E same hash → ℕ → List ℕ
+  abbrev pub settlement_line : Desk K V E S H same hash build hasher → ℕ → List ℕ
   settlement_line desk number = line_at desk.waits.settlements.lists number
 
-  abbrev pub lock_line : Desk K V E same hash → ℕ → List ℕ
+  abbrev pub lock_line : Desk K V E S H same hash build hasher → ℕ → List ℕ
   lock_line desk number = line_at desk.waits.locks.lists number
 
-  abbrev pub notice_line : Desk K V E same hash → ℕ → List ℕ
+  abbrev pub notice_line : Desk K V E S H same hash build hasher → ℕ → List ℕ
   notice_line desk number = line_at desk.waits.notices.lists number
 
   -- the owner that the call waits for, where it has not settled
-  abbrev pub awaited : Desk K V E same hash → ℕ → Option ℕ
+  abbrev pub awaited : Desk K V E S H same hash build hasher → ℕ → Option ℕ
   awaited desk call =
       unsettled (get nat_eq desk.loads.joined call) (λ owner. get nat_eq desk.loads.settled owner)
 
   -- the call, where it waits for the answer to its own ask
-  abbrev pub answer_line : Desk K V E same hash → ℕ → List ℕ
+  abbrev pub answer_line : Desk K V E S H same hash build hasher → ℕ → List ℕ
   answer_line desk number = asker_at desk.asks.open_asks number
 
   -- those that wait for such an answer to the ask of this number
-  abbrev pub told_line : Desk K V E same hash → ℕ → Told V E → List ℕ
+  abbrev pub told_line : Desk K V E S H same hash build hasher → ℕ → Told V E → List ℕ
   told_line desk number (answer.Value value) = answer_line desk number
   told_line desk number answer.Nothing = answer_line desk number
   told_line desk number (answer.Err error) = answer_line desk number
@@ -59,42 +62,44 @@ module _ {K V E : Type 0} {same : PartialEq.Ghosts K} {hash : Hash.Ghosts K} whe
   told_line desk number answer.Off = notice_line desk number
 
   -- nobody comes to wait, and nobody leaves a list
-  abbrev pub NobodyMoves : Desk K V E same hash → Desk K V E same hash → Type 0
+  abbrev pub NobodyMoves : Desk K V E S H same hash build hasher →
+      Desk K V E S H same hash build hasher → Type 0
   NobodyMoves old new = (new.waits ≡ old.waits) × (new.asks ≡ old.asks)
 
   -- the lists of one kind change so, and no other
-  abbrev pub TurnsMove : Desk K V E same hash → (ℕ → List ℕ → List ℕ) →
-      Desk K V E same hash → Type 0
+  abbrev pub TurnsMove : Desk K V E S H same hash build hasher → (ℕ → List ℕ → List ℕ) →
+      Desk K V E S H same hash build hasher → Type 0
   TurnsMove old change new =
       ((n : ℕ) → turn_line new n ≡ change n (turn_line old n)) ×
       (new.waits ≡ record old.waits { turns = new.waits.turns }) × (new.asks ≡ old.asks)
 
-  abbrev pub SettlementsMove : Desk K V E same hash → (ℕ → List ℕ → List ℕ) →
-      Desk K V E same hash → Type 0
+  abbrev pub SettlementsMove : Desk K V E S H same hash build hasher → (ℕ → List ℕ → List ℕ) →
+      Desk K V E S H same hash build hasher → Type 0
   SettlementsMove old change new =
       ((n : ℕ) → settlement_line new n ≡ change n (settlement_line old n)) ×
       (new.waits ≡ record old.waits { settlements = new.waits.settlements }) × (new.asks ≡ old.asks)
 
-  abbrev pub LocksMove : Desk K V E same hash → (ℕ → List ℕ → List ℕ) →
-      Desk K V E same hash → Type 0
+  abbrev pub LocksMove : Desk K V E S H same hash build hasher → (ℕ → List ℕ → List ℕ) →
+      Desk K V E S H same hash build hasher → Type 0
   LocksMove old change new =
       ((n : ℕ) → lock_line new n ≡ change n (lock_line old n)) ×
       (new.waits ≡ record old.waits { locks = new.waits.locks }) × (new.asks ≡ old.asks)
 
-  abbrev pub NoticesMove : Desk K V E same hash → (ℕ → List ℕ → List ℕ) →
-      Desk K V E same hash → Type 0
+  abbrev pub NoticesMove : Desk K V E S H same hash build hasher → (ℕ → List ℕ → List ℕ) →
+      Desk K V E S H same hash build hasher → Type 0
   NoticesMove old change new =
       ((n : ℕ) → notice_line new n ≡ change n (notice_line old n)) ×
       (new.waits ≡ record old.waits { notices = new.waits.notices }) × (new.asks ≡ old.asks)
 
-  abbrev pub AnswersMove : Desk K V E same hash → (ℕ → List ℕ → List ℕ) →
-      Desk K V E same hash → Type 0
+  abbrev pub AnswersMove : Desk K V E S H same hash build hasher → (ℕ → List ℕ → List ℕ) →
+      Desk K V E S H same hash build hasher → Type 0
   AnswersMove old change new =
       ((n : ℕ) → answer_line new n ≡ change n (answer_line old n)) × (new.waits ≡ old.waits)
 
   -- The call leaves: it is taken off each list, and the lists of its load, of its lock and of the
   -- answer to its ask are empty then. On the other lists every other call stays.
-  pub record LeftMove (old : Desk K V E same hash) (call : ℕ) (new : Desk K V E same hash)
+  pub record LeftMove (old : Desk K V E S H same hash build hasher) (call : ℕ)
+      (new : Desk K V E S H same hash build hasher)
       : Type 0 where
     pub turns : (n : ℕ) → turn_line new n ≡ without call (turn_line old n)
     pub settlements : (n : ℕ) →
@@ -105,7 +110,8 @@ module _ {K V E : Type 0} {same : PartialEq.Ghosts K} {hash : Hash.Ghosts K} whe
 
   -- all that wait for such an answer to the ask of this number leave its list, and no other list
   -- changes
-  abbrev pub ToldMove : Desk K V E same hash → ℕ → Told V E → Desk K V E same hash → Type 0
+  abbrev pub ToldMove : Desk K V E S H same hash build hasher → ℕ → Told V E →
+      Desk K V E S H same hash build hasher → Type 0
   ToldMove old number (answer.Value value) new = AnswersMove old (comes number) new
   ToldMove old number answer.Nothing new = AnswersMove old (comes number) new
   ToldMove old number (answer.Err error) new = AnswersMove old (comes number) new

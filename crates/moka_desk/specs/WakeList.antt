@@ -2,6 +2,8 @@
 use Rattle.std.specs.Prelude.{◌≡◌, ℕ, Bool, false, ◌||◌, List}
 use Rattle.std.specs.declared.cmp.PartialEq as PartialEq
 use Rattle.std.specs.declared.hash.Hash as Hash
+use Rattle.std.specs.declared.hash.Hasher as Hasher
+use Rattle.std.specs.declared.hash.BuildHasher as BuildHasher
 use Rattle.moka_hist.specs.declared.events.Told.{Told}
 use Rattle.moka_hist.specs.declared.events.Told.TheVariants as answer
 use Rattle.moka_desk.specs.ListedMiss.{EachListed}
@@ -45,9 +47,10 @@ after_leaving call load lock l = record {
 abbrev pub Change : Type 0
 Change = (ℕ → Bool) → ℕ → Bool
 
-module _ {K V E : Type 0} {same : PartialEq.Ghosts K} {hash : Hash.Ghosts K} where
+module _ {K V E S H : Type 0} {same : PartialEq.Ghosts K} {hash : Hash.Ghosts K}
+    {build : BuildHasher.Ghosts S H} {hasher : Hasher.Ghosts H} where
   -- the wake list of the desk
-  abbrev pub wake_list : Desk K V E same hash → WakeList
+  abbrev pub wake_list : Desk K V E S H same hash build hasher → WakeList
   wake_list desk = record {
     turns = is_out desk.waits.turns;
     settlements = is_out desk.waits.settlements;
@@ -57,7 +60,7 @@ module _ {K V E : Type 0} {same : PartialEq.Ghosts K} {hash : Hash.Ghosts K} whe
   }
 
   -- nobody who is listed is on it, for things of the same kind
-  pub record ListedAreUnwoken (desk : Desk K V E same hash) : Type 0 where
+  pub record ListedAreUnwoken (desk : Desk K V E S H same hash build hasher) : Type 0 where
     pub turns : EachListed (turn_line desk) (λ n c. is_out desk.waits.turns c ≡ false)
     pub settlements : EachListed (settlement_line desk)
         (λ n c. is_out desk.waits.settlements c ≡ false)
@@ -66,32 +69,40 @@ module _ {K V E : Type 0} {same : PartialEq.Ghosts K} {hash : Hash.Ghosts K} whe
     pub notices : EachListed (notice_line desk) (λ n c. is_out desk.waits.notices c ≡ false)
 
   -- the wake list changes so
-  abbrev pub Wake : Desk K V E same hash → (WakeList → WakeList) → Desk K V E same hash → Type 0
+  abbrev pub Wake : Desk K V E S H same hash build hasher → (WakeList → WakeList) →
+      Desk K V E S H same hash build hasher → Type 0
   Wake old change new = HaveSame (wake_list new) (change (wake_list old))
 
   -- nobody comes to it, and nobody leaves it
-  abbrev pub NobodyWakes : Desk K V E same hash → Desk K V E same hash → Type 0
+  abbrev pub NobodyWakes : Desk K V E S H same hash build hasher →
+      Desk K V E S H same hash build hasher → Type 0
   NobodyWakes old new = Wake old (λ l. l) new
 
   -- those on it that waited for things of one kind change so, and no others
-  abbrev pub TurnsWake : Desk K V E same hash → Change → Desk K V E same hash → Type 0
+  abbrev pub TurnsWake : Desk K V E S H same hash build hasher → Change →
+      Desk K V E S H same hash build hasher → Type 0
   TurnsWake old change new = Wake old (λ l. record l { turns = change l.turns }) new
 
-  abbrev pub SettlementsWake : Desk K V E same hash → Change → Desk K V E same hash → Type 0
+  abbrev pub SettlementsWake : Desk K V E S H same hash build hasher → Change →
+      Desk K V E S H same hash build hasher → Type 0
   SettlementsWake old change new =
       Wake old (λ l. record l { settlements = change l.settlements }) new
 
-  abbrev pub AnswersWake : Desk K V E same hash → Change → Desk K V E same hash → Type 0
+  abbrev pub AnswersWake : Desk K V E S H same hash build hasher → Change →
+      Desk K V E S H same hash build hasher → Type 0
   AnswersWake old change new = Wake old (λ l. record l { answers = change l.answers }) new
 
-  abbrev pub LocksWake : Desk K V E same hash → Change → Desk K V E same hash → Type 0
+  abbrev pub LocksWake : Desk K V E S H same hash build hasher → Change →
+      Desk K V E S H same hash build hasher → Type 0
   LocksWake old change new = Wake old (λ l. record l { locks = change l.locks }) new
 
-  abbrev pub NoticesWake : Desk K V E same hash → Change → Desk K V E same hash → Type 0
+  abbrev pub NoticesWake : Desk K V E S H same hash build hasher → Change →
+      Desk K V E S H same hash build hasher → Type 0
   NoticesWake old change new = Wake old (λ l. record l { notices = change l.notices }) new
 
   -- these calls, that waited for such an answer, come to it
-  abbrev pub ToldWake : Desk K V E same hash → Told V E → List ℕ → Desk K V E same hash → Type 0
+  abbrev pub ToldWake : Desk K V E S H same hash build hasher → Told V E → List ℕ →
+      Desk K V E S H same hash build hasher → Type 0
   ToldWake old (answer.Value value) calls new = AnswersWake old (and_calls calls) new
   ToldWake old answer.Nothing calls new = AnswersWake old (and_calls calls) new
   ToldWake old (answer.Err error) calls new = AnswersWake old (and_calls calls) new

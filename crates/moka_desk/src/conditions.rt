@@ -6,9 +6,9 @@ use crate::Desk;
 use moka_hist::{Holding, Kind, Load, Write};
 use moka_needs::{Ending, Need};
 use moka_values::Exact;
-use std::hash::Hash;
+use std::hash::{BuildHasher, Hash};
 
-impl<K: Eq + Hash + Exact, V: Drop, E: Drop> Desk<K, V, E> {
+impl<K: Eq + Hash + Exact, V: Drop, E: Drop, S: BuildHasher + Drop> Desk<K, V, E, S> {
     ghost use Rattle.moka_hist.specs.State.{DeskPart};
     ghost use Rattle.moka_hist.specs.Conditions.{HasUnsettled, HoldsNoWrite, HoldsWrite, IsUnused, MayLeave, MayVisit};
     ghost use Rattle.moka_needs.specs.Needs.{need_of, IsOfCall};

@@ -10,9 +10,9 @@ use moka_hist::{Cause, Times};
 use moka_room::map_room;
 use moka_values::Exact;
 use std::alloc::AllocError;
-use std::hash::Hash;
+use std::hash::{BuildHasher, Hash};
 
-impl<K: Eq + Hash + Exact, V: Drop, E: Drop> Desk<K, V, E> {
+impl<K: Eq + Hash + Exact, V: Drop, E: Drop, S: BuildHasher + Drop> Desk<K, V, E, S> {
     ghost use Rattle.moka_hist.specs.State.{DeskPart};
     ghost use Rattle.moka_hist.specs.Causes.{chosen_holds};
     ghost use Rattle.moka_hist.specs.Visits.{accessed_at, cause_of, judged, times_at};

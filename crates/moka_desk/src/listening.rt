@@ -10,9 +10,9 @@ use moka_hist::Cause;
 use moka_sync::CallList;
 use moka_values::Exact;
 use std::alloc::AllocError;
-use std::hash::Hash;
+use std::hash::{BuildHasher, Hash};
 
-impl<K: Eq + Hash + Exact, V: Drop, E: Drop> Desk<K, V, E> {
+impl<K: Eq + Hash + Exact, V: Drop, E: Drop, S: BuildHasher + Drop> Desk<K, V, E, S> {
     ghost use Rattle.moka_hist.specs.State.{DeskPart};
     ghost use Rattle.moka_hist.specs.Telling.{heard, MayEnd};
     ghost use Rattle.moka_hist.specs.Visits.{is_running};

@@ -14,14 +14,14 @@ use moka_room::map_room;
 use moka_values::Exact;
 use std::alloc::{AllocError, Global};
 use std::collections::HashMap;
-use std::hash::Hash;
+use std::hash::{BuildHasher, Hash};
 
 /// The owners of loads with what each owns, those that wait for an owner, how many wait for each,
 /// and how owners ended that somebody has still to read. Each owner has the place of its
 /// settlement. As many wait for an owner as have joined it.
 #[derive(Drop)]
-pub(crate) struct Loads<K: Eq + Hash, V, E> {
-    pub(crate) owners: HashMap<Load<K>, u64>,
+pub(crate) struct Loads<K: Eq + Hash, V, E, S: BuildHasher> {
+    pub(crate) owners: HashMap<Load<K>, u64, S>,
     pub(crate) owning: HashMap<u64, Load<K>>,
     pub(crate) joined: HashMap<u64, u64>,
     pub(crate) readers: HashMap<u64, u64>,
@@ -31,7 +31,7 @@ pub(crate) struct Loads<K: Eq + Hash, V, E> {
         ≡ waiting_for joined.entries n },
 }
 
-impl<K: Eq + Hash + Exact, V: Drop, E: Drop> Loads<K, V, E> {
+impl<K: Eq + Hash + Exact, V: Drop, E: Drop, S: BuildHasher> Loads<K, V, E, S> {
     ghost use Rattle.moka_hist.specs.Finite.{load_eq, put_at, put_key};
     ghost use Rattle.moka_hist.specs.State.{DeskPart};
     ghost use Rattle.moka_hist.specs.declared.loads.Load.{Load as load_of};
@@ -41,8 +41,8 @@ impl<K: Eq + Hash + Exact, V: Drop, E: Drop> Loads<K, V, E> {
     ghost use Rattle.moka_hist.specs.Dropping.{left};
     ghost use Rattle.moka_desk.specs.Loads.{load_part, unsettled, LoadsAre, LoadsBecome, LoadsStay, LoadsMake};
 
-    /// Nothing is owned, and nobody waits.
-    pub(crate) fn new(alloc: Global) -> Self
+    /// Nothing is owned, and nobody waits. Loads are hashed by this hasher.
+    pub(crate) fn new(alloc: Global, hasher: S) -> Self
         ensures { LoadsAre K.eq result (record {
           owners = λ _. None;
           owning = λ _. None;
@@ -52,7 +52,7 @@ impl<K: Eq + Hash + Exact, V: Drop, E: Drop> Loads<K, V, E> {
         }) }
     {
         Loads {
-            owners: HashMap::new(alloc),
+            owners: HashMap::with_hasher(alloc, hasher),
             owning: HashMap::new(alloc),
             joined: HashMap::new(alloc),
             readers: HashMap::new(alloc),

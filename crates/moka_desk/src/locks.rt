@@ -9,26 +9,26 @@ use moka_room::map_room;
 use moka_values::Exact;
 use std::alloc::{AllocError, Global};
 use std::collections::HashMap;
-use std::hash::Hash;
+use std::hash::{BuildHasher, Hash};
 
 /// The call that holds each key's lock, and the key that each call has locked. A call holds one
 /// lock at most.
 #[derive(Drop)]
-pub(crate) struct Locks<K: Eq + Hash> {
-    pub(crate) holders: HashMap<K, u64>,
+pub(crate) struct Locks<K: Eq + Hash, S: BuildHasher> {
+    pub(crate) holders: HashMap<K, u64, S>,
     pub(crate) locked: HashMap<u64, K>,
 }
 
-impl<K: Eq + Hash + Exact> Locks<K> {
+impl<K: Eq + Hash + Exact, S: BuildHasher> Locks<K, S> {
     ghost use Rattle.moka_hist.specs.Finite.{put_at, put_key};
     ghost use Rattle.moka_desk.specs.Locks.{LockPart, LocksAre, LocksBecome};
 
-    /// No key is locked.
-    pub(crate) fn new(alloc: Global) -> Self
+    /// No key is locked. Keys are hashed by this hasher.
+    pub(crate) fn new(alloc: Global, hasher: S) -> Self
         ensures { LocksAre K.eq result (record { locks = λ _. None; locked = λ _. None }) }
     {
         Locks {
-            holders: HashMap::new(alloc),
+            holders: HashMap::with_hasher(alloc, hasher),
             locked: HashMap::new(alloc),
         }
     }

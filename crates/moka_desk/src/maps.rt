@@ -7,10 +7,14 @@ ghost use Rattle.std.specs.HashSet as hash_set;
 ghost use Rattle.std.specs.HashMap.{get, spare, hash_map_len, PutsEntry, Updates};
 
 use std::collections::{HashMap, HashSet};
-use std::hash::Hash;
+use std::hash::{BuildHasher, Hash};
 
 /// Puts the value at the key, for which there is room.
-pub(crate) fn put<Q: Eq + Hash + Drop, T: Drop>(map: &mut HashMap<Q, T>, key: Q, value: T)
+pub(crate) fn put<Q: Eq + Hash + Drop, T: Drop, S: BuildHasher>(
+    map: &mut HashMap<Q, T, S>,
+    key: Q,
+    value: T,
+)
     requires { 0 < spare map.old }
     ensures updates { Updates Q.eq map.old map.new key (Some value) }
     ensures entries { PutsEntry Q.eq map.old map.new key value (get Q.eq map.old key) }

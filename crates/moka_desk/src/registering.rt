@@ -7,12 +7,12 @@ use crate::Desk;
 use moka_hist::{Ids, PredicateError, Registered, Stored, TestList, Tests};
 use moka_values::Exact;
 use std::alloc::{AllocError, Global};
-use std::hash::Hash;
+use std::hash::{BuildHasher, Hash};
 
 /// How many ids are drawn at most for one predicate.
 const MOST_DRAWN: u32 = 1000;
 
-impl<K: Eq + Hash + Exact, V: Drop, E: Drop> Desk<K, V, E> {
+impl<K: Eq + Hash + Exact, V: Drop, E: Drop, S: BuildHasher + Drop> Desk<K, V, E, S> {
     ghost use Rattle.moka_hist.specs.State.{DeskPart};
     ghost use Rattle.moka_hist.specs.Visits.{is_hit, registered_with, registering};
     ghost use Rattle.moka_desk.specs.History.{KeepsAsBefore};

@@ -7,9 +7,9 @@ use crate::Desk;
 use moka_hist::{IdList, Stored, Tests};
 use moka_values::Exact;
 use std::alloc::AllocError;
-use std::hash::Hash;
+use std::hash::{BuildHasher, Hash};
 
-impl<K: Eq + Hash + Exact, V: Drop, E: Drop> Desk<K, V, E> {
+impl<K: Eq + Hash + Exact, V: Drop, E: Drop, S: BuildHasher + Drop> Desk<K, V, E, S> {
     ghost use Rattle.moka_hist.specs.State.{DeskPart};
     ghost use Rattle.moka_hist.specs.Visits.{candidates, retired, struck};
     ghost use Rattle.moka_desk.specs.History.{KeepsAsBefore};

@@ -11,17 +11,19 @@ use crate::predicates::Predicates;
 use crate::waits::Waits;
 use crate::writes::Writes;
 use moka_hist::{Notice, Owed, Rules, Write};
+use moka_room::FixedSeed;
 use moka_values::Exact;
 use std::alloc::{AllocError, Global};
 use std::collections::{HashMap, VecDeque};
-use std::hash::Hash;
+use std::hash::{BuildHasher, Hash};
 
 /// What calls leave for one another: the clock, the writes that aren't applied yet, the owners of
 /// loads and those that wait for them, and open asks. Moments are nanoseconds, and calls go by
 /// their numbers. A call that takes a moment, owns a load or opens an ask gets the places of what
 /// follows, so that a later visit never fails for want of memory where its signature has no error.
+/// Keys of loads and locks are hashed by S.
 #[derive(Drop)]
-pub struct Desk<K: Eq + Hash, V, E> {
+pub struct Desk<K: Eq + Hash, V, E, S: BuildHasher = FixedSeed> {
     pub(crate) rules: Rules,
     pub(crate) clock: u64,
     pub(crate) valid_after: Option<u64>,
@@ -33,8 +35,8 @@ pub struct Desk<K: Eq + Hash, V, E> {
     pub(crate) published: u64,
     pub(crate) last: u64,
     pub(crate) writes: Writes,
-    pub(crate) loads: Loads<K, V, E>,
-    pub(crate) locks: Locks<K>,
+    pub(crate) loads: Loads<K, V, E, S>,
+    pub(crate) locks: Locks<K, S>,
     pub(crate) notices: Notices<K, V>,
     pub(crate) asks: Asks<V, E>,
     pub(crate) waits: Waits,
@@ -42,13 +44,10 @@ pub struct Desk<K: Eq + Hash, V, E> {
 
 impl<K: Eq + Hash + Exact, V: Drop, E: Drop> Desk<K, V, E> {
     ghost use Rattle.moka_hist.specs.State.{DeskPart, Handed, fresh_desk};
-    ghost use Rattle.moka_hist.specs.Run.{last_call};
-    ghost use Rattle.moka_hist.specs.Visits.{is_running};
-    ghost use Rattle.moka_desk.specs.StandsFor.{StandsFor, Becomes};
-    ghost use Rattle.moka_desk.specs.History.{KeepsAll, KeepsAsBefore, keeps_history, keeps_moments};
-    ghost use Rattle.moka_desk.specs.ListedMiss.{ListedMiss, MissWith};
-    ghost use Rattle.moka_desk.specs.Waits.{NobodyMoves};
-    ghost use Rattle.moka_desk.specs.WakeList.{is_on, wake_list, ListedAreUnwoken, NobodyWakes};
+    ghost use Rattle.moka_desk.specs.StandsFor.{StandsFor};
+    ghost use Rattle.moka_desk.specs.History.{keeps_history};
+    ghost use Rattle.moka_desk.specs.ListedMiss.{ListedMiss};
+    ghost use Rattle.moka_desk.specs.WakeList.{is_on, wake_list};
 
     /// Makes a desk by these rules, where nothing has happened, with a log of this many writes. It
     /// keeps a history: the applied writes, each notice, and when each record was seen.
@@ -75,17 +74,31 @@ impl<K: Eq + Hash + Exact, V: Drop, E: Drop> Desk<K, V, E> {
         ensures misses { IfOk result (λ desk. (w : DeskPart K V E) → ListedMiss desk w) }
         ensures unwoken { IfOk result (λ desk. (call : ℕ) → is_on (wake_list desk) call ≡ false) }
     {
-        Desk::made(alloc, rules, log, last, true)
+        Desk::made(alloc, rules, log, last, true, FixedSeed::new())
     }
+}
+
+impl<K: Eq + Hash + Exact, V: Drop, E: Drop, S: BuildHasher + Drop> Desk<K, V, E, S> {
+    ghost use Rattle.moka_hist.specs.State.{DeskPart, Handed, fresh_desk};
+    ghost use Rattle.moka_hist.specs.Run.{last_call};
+    ghost use Rattle.moka_hist.specs.Visits.{is_running};
+    ghost use Rattle.moka_desk.specs.StandsFor.{StandsFor, Becomes};
+    ghost use Rattle.moka_desk.specs.History.{KeepsAll, KeepsAsBefore, keeps_history, keeps_moments};
+    ghost use Rattle.moka_desk.specs.ListedMiss.{ListedMiss, MissWith};
+    ghost use Rattle.moka_desk.specs.Waits.{NobodyMoves};
+    ghost use Rattle.moka_desk.specs.WakeList.{is_on, wake_list, ListedAreUnwoken, NobodyWakes};
 
     /// Makes a desk where nothing has happened, and that keeps no history: of the past it keeps
-    /// what a later visit may ask for.
+    /// what a later visit may ask for. Keys are hashed by clones of this hasher.
     pub fn without_history(
         alloc: Global,
         rules: Rules,
         log: usize,
         last: u64,
+        hasher: S,
     ) -> Result<Self, AllocError>
+    where
+        S: Clone,
         ensures stands { IfOk result (λ desk. (handed : Handed K V)
             → StandsFor K.eq desk (record (fresh_desk K V E rules log handed) { last = last })) }
         ensures history { IfOk result (λ desk. keeps_history desk ≡ false) }
@@ -93,7 +106,7 @@ impl<K: Eq + Hash + Exact, V: Drop, E: Drop> Desk<K, V, E> {
         ensures misses { IfOk result (λ desk. (w : DeskPart K V E) → ListedMiss desk w) }
         ensures unwoken { IfOk result (λ desk. (call : ℕ) → is_on (wake_list desk) call ≡ false) }
     {
-        Desk::made(alloc, rules, log, last, false)
+        Desk::made(alloc, rules, log, last, false, hasher)
     }
 
     // A desk where this call number and those before it were given out, with a history or without
@@ -104,7 +117,10 @@ impl<K: Eq + Hash + Exact, V: Drop, E: Drop> Desk<K, V, E> {
         log: usize,
         last: u64,
         history: bool,
+        hasher: S,
     ) -> Result<Self, AllocError>
+    where
+        S: Clone,
         ensures stands { IfOk result (λ desk. (handed : Handed K V)
             → StandsFor K.eq desk (record (fresh_desk K V E rules log handed) { last = last })) }
         ensures history { IfOk result (λ desk. keeps_history desk ≡ history) }
@@ -112,6 +128,7 @@ impl<K: Eq + Hash + Exact, V: Drop, E: Drop> Desk<K, V, E> {
         ensures misses { IfOk result (λ desk. (w : DeskPart K V E) → ListedMiss desk w) }
         ensures unwoken { IfOk result (λ desk. (call : ℕ) → is_on (wake_list desk) call ≡ false) }
     {
+        let of_loads = hasher.clone()?;
         Ok(Desk {
             rules,
             clock: 0,
@@ -124,8 +141,8 @@ impl<K: Eq + Hash + Exact, V: Drop, E: Drop> Desk<K, V, E> {
             published: 0,
             last,
             writes: Writes::new(alloc, log, history, reads_moments(&rules))?,
-            loads: Loads::new(alloc),
-            locks: Locks::new(alloc),
+            loads: Loads::new(alloc, of_loads),
+            locks: Locks::new(alloc, hasher),
             notices: Notices::new(alloc, history),
             asks: Asks::new(alloc),
             waits: Waits::new(alloc),

@@ -3,6 +3,8 @@ use Rattle.std.proofs.Common.{◌≡◌, ℕ, ◌==◌, Bool, true, false, cond,
 use Rattle.std.proofs.lemmas.Bool.{eqb-false}
 use Rattle.std.specs.declared.cmp.PartialEq as PartialEq
 use Rattle.std.specs.declared.hash.Hash as Hash
+use Rattle.std.specs.declared.hash.Hasher as Hasher
+use Rattle.std.specs.declared.hash.BuildHasher as BuildHasher
 use Rattle.moka_hist.specs.Conditions.{HoldsWrite, IsPlaceOf, MayVisit}
 use Rattle.moka_hist.specs.Finite.{times}
 use Rattle.moka_hist.specs.State.{DeskPart}
@@ -43,7 +45,7 @@ may_post w writes call write is = by (call == call) refl where
   by true e = sym is
   by false e = absurd (eqb-false call call e refl)
 
-pub rests : {same : PartialEq.Ghosts ℕ} {hash : Hash.Ghosts ℕ} (w : DeskPart ℕ ℕ ℕ) (writes : List Write) (call : ℕ) (write : Write) (desk : Desk ℕ ℕ ℕ same hash) →
+pub rests : {S H : Type 0} {same : PartialEq.Ghosts ℕ} {hash : Hash.Ghosts ℕ} {build : BuildHasher.Ghosts S H} {hasher : Hasher.Ghosts H} (w : DeskPart ℕ ℕ ℕ) (writes : List Write) (call : ℕ) (write : Write) (desk : Desk ℕ ℕ ℕ S H same hash build hasher) →
     StandsFor nat_eq desk (ended_turn (once_applied w writes call write)) → RestsOnDesk desk (writes ++ write ∷ [])
 rests w writes call write desk stands =
     let last : DeskPart ℕ ℕ ℕ = record w { published = standing (writes ++ write ∷ []) } in

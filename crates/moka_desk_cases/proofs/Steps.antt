@@ -3,6 +3,8 @@ use Rattle.std.proofs.Common.{◌≡◌, ◌≢◌, ℕ, ◌==◌, Bool, true, f
 use Rattle.std.proofs.lemmas.Bool.{eqb-false}
 use Rattle.std.specs.declared.cmp.PartialEq as PartialEq
 use Rattle.std.specs.declared.hash.Hash as Hash
+use Rattle.std.specs.declared.hash.Hasher as Hasher
+use Rattle.std.specs.declared.hash.BuildHasher as BuildHasher
 use Rattle.moka_hist.specs.Finite.{put_at}
 use Rattle.moka_hist.specs.State.{DeskPart}
 use Rattle.moka_hist.specs.Telling.{told}
@@ -31,8 +33,8 @@ pub differ : (n m : ℕ) → (n == m) ≡ false → Some n ≢ Some m
 differ n m e same = eqb-false n m e (ap (λ o. unwrap_or o 0) same)
 
 -- a call that asked can look for its answer, whatever its ask was told
-pub answer_is_there : {same : PartialEq.Ghosts ℕ} {hash : Hash.Ghosts ℕ} {A : Type 0} (w : DeskPart ℕ ℕ ℕ) (call : ℕ) →
-    (is_some (w.asks call) || is_some (w.told call)) ≡ true → (a : Told ℕ ℕ) (woken : Option A) (desk : Desk ℕ ℕ ℕ same hash) →
+pub answer_is_there : {S H : Type 0} {same : PartialEq.Ghosts ℕ} {hash : Hash.Ghosts ℕ} {build : BuildHasher.Ghosts S H} {hasher : Hasher.Ghosts H} {A : Type 0} (w : DeskPart ℕ ℕ ℕ) (call : ℕ) →
+    (is_some (w.asks call) || is_some (w.told call)) ≡ true → (a : Told ℕ ℕ) (woken : Option A) (desk : Desk ℕ ℕ ℕ S H same hash build hasher) →
     StandsFor nat_eq desk (if is_some woken then told w call a else w) → Can nat_eq desk (visit.TakeTold call)
 answer_is_there w call asked a woken desk stands = (if is_some woken then told w call a else w, stands, by (is_some woken) a) where
   self : (call == call) ≡ true

@@ -2,6 +2,8 @@
 use Rattle.std.specs.Prelude.{ℕ, false, List, [], Option, None, nat_eq}
 use Rattle.std.specs.declared.cmp.PartialEq as PartialEq
 use Rattle.std.specs.declared.hash.Hash as Hash
+use Rattle.std.specs.declared.hash.Hasher as Hasher
+use Rattle.std.specs.declared.hash.BuildHasher as BuildHasher
 use Rattle.moka_hist.specs.State.{DeskPart, Handed, fresh_desk}
 use Rattle.moka_hist.specs.declared.rules.Rules.{Rules}
 use Rattle.moka_hist.specs.declared.writes.Write.{Write}
@@ -21,8 +23,9 @@ abbrev pub untouched : Rules → DeskPart ℕ ℕ ℕ
 untouched rules = fresh_desk ℕ ℕ ℕ rules 4 none_handed
 
 -- nothing has happened on the desk
-abbrev pub IsNew : {same : PartialEq.Ghosts ℕ} {hash : Hash.Ghosts ℕ} →
-    Desk ℕ ℕ ℕ same hash → Type 0
+abbrev pub IsNew : {S H : Type 0} {same : PartialEq.Ghosts ℕ} {hash : Hash.Ghosts ℕ}
+    {build : BuildHasher.Ghosts S H} {hasher : Hasher.Ghosts H} →
+    Desk ℕ ℕ ℕ S H same hash build hasher → Type 0
 IsNew desk = (rules : Rules) × StandsFor nat_eq desk (untouched rules)
 
 -- the state where nobody holds a write or has the turn, nothing is owed or logged in a log of four,
@@ -38,17 +41,22 @@ resting w writes = record w {
 }
 
 -- the desk stands for such a state
-abbrev pub RestsOnDesk : {same : PartialEq.Ghosts ℕ} {hash : Hash.Ghosts ℕ} → Desk ℕ ℕ ℕ same hash →
+abbrev pub RestsOnDesk : {S H : Type 0} {same : PartialEq.Ghosts ℕ} {hash : Hash.Ghosts ℕ}
+    {build : BuildHasher.Ghosts S H} {hasher : Hasher.Ghosts H} →
+    Desk ℕ ℕ ℕ S H same hash build hasher →
     List Write → Type 0
 RestsOnDesk desk writes = (w : DeskPart ℕ ℕ ℕ) × StandsFor nat_eq desk (resting w writes)
 
 -- the desk stands for a state where nobody holds a write
-abbrev pub NobodyHolds : {same : PartialEq.Ghosts ℕ} {hash : Hash.Ghosts ℕ} →
-    Desk ℕ ℕ ℕ same hash → Type 0
+abbrev pub NobodyHolds : {S H : Type 0} {same : PartialEq.Ghosts ℕ} {hash : Hash.Ghosts ℕ}
+    {build : BuildHasher.Ghosts S H} {hasher : Hasher.Ghosts H} →
+    Desk ℕ ℕ ℕ S H same hash build hasher → Type 0
 NobodyHolds desk =
     (w : DeskPart ℕ ℕ ℕ) × StandsFor nat_eq desk (record w { holding = λ _. None })
 
 -- the desk stands for a state where this call, if any, has the turn
-abbrev pub HasTurn : {same : PartialEq.Ghosts ℕ} {hash : Hash.Ghosts ℕ} → Desk ℕ ℕ ℕ same hash →
+abbrev pub HasTurn : {S H : Type 0} {same : PartialEq.Ghosts ℕ} {hash : Hash.Ghosts ℕ}
+    {build : BuildHasher.Ghosts S H} {hasher : Hasher.Ghosts H} →
+    Desk ℕ ℕ ℕ S H same hash build hasher →
     Option ℕ → Type 0
 HasTurn desk call = (w : DeskPart ℕ ℕ ℕ) × StandsFor nat_eq desk (record w { turn = call })

@@ -9,6 +9,7 @@ use crate::writes::published_after;
 use moka_desk::Desk;
 use moka_hist::{Rules, Write};
 use moka_needs::Need;
+use moka_room::FixedSeed;
 use std::alloc::{AllocError, Global};
 use std::test::Fail;
 use std::time::Duration;
@@ -134,7 +135,7 @@ fn what_is_published_is_what_stands_in_any_order(rt: HostRuntime) -> Result<(), 
         let in_whole = are_counted(&mut whole, &applied);
         drop(whole);
         assert!(rt; in_whole?, "order {order}");
-        let mut brief = Desk::without_history(alloc, rules_with(None), 4, 0)?;
+        let mut brief = Desk::without_history(alloc, rules_with(None), 4, 0, FixedSeed::new())?;
         let in_brief = are_counted(&mut brief, &applied);
         drop(brief);
         assert!(rt; in_brief?, "order {order}, forgotten");
@@ -168,7 +169,7 @@ fn a_number_is_forgotten_with_its_record_where_there_is_no_history(
     let in_whole = may_be_stamped(&mut whole, false);
     drop(whole);
     assert!(rt; in_whole?);
-    let mut brief = Desk::without_history(alloc, rules_with(None), 4, 0)?;
+    let mut brief = Desk::without_history(alloc, rules_with(None), 4, 0, FixedSeed::new())?;
     let in_brief = may_be_stamped(&mut brief, true);
     drop(brief);
     assert!(rt; in_brief?);
@@ -211,7 +212,7 @@ fn a_look_is_forgotten_with_its_record_where_there_is_no_history(
     let in_whole = forgets_what_left(&mut whole);
     drop(whole);
     assert!(rt; !in_whole?);
-    let mut brief = Desk::without_history(alloc, idle_rules(), 4, 0)?;
+    let mut brief = Desk::without_history(alloc, idle_rules(), 4, 0, FixedSeed::new())?;
     let in_brief = forgets_what_left(&mut brief);
     drop(brief);
     assert!(rt; in_brief?);

@@ -2,6 +2,8 @@
 use Rattle.std.proofs.Common.{◌≡◌, ◌≤◌, ◌<◌, ◌+◌, ◌==◌, ℕ, Bool, true, false, cond, nat_lt, Option, Some, None, MatchOption, IfNone, OnSome, is_some, refl, sym, ap, ◌∙◌, subst, arith}
 use Rattle.std.specs.declared.cmp.PartialEq as PartialEq
 use Rattle.std.specs.declared.hash.Hash as Hash
+use Rattle.std.specs.declared.hash.Hasher as Hasher
+use Rattle.std.specs.declared.hash.BuildHasher as BuildHasher
 use Rattle.std.specs.Option.{option_map}
 use Rattle.std.proofs.lemmas.Bool.{ltb-true}
 use Rattle.moka_hist.specs.Conditions.{MayLeave, MayVisit}
@@ -35,9 +37,9 @@ there_at w call (tells.Op op) own = put_here w.told call (Some (tells.Op op))
 there_at w call tells.Done own = absurd (false≢true own)
 there_at w call tells.Off own = absurd (false≢true own)
 
-module _ {K V E : Type 0} {same : PartialEq.Ghosts K} {hash : Hash.Ghosts K} (eq : K → K → Bool) where
+module _ {K V E S H : Type 0} {same : PartialEq.Ghosts K} {hash : Hash.Ghosts K} {build : BuildHasher.Ghosts S H} {hasher : Hasher.Ghosts H} (eq : K → K → Bool) where
   -- the world with a sound desk that the new one stands for is kept
-  with_desk_at : (layers : CacheLayers K V E same hash) (desk : Desk K V E same hash) (w : DeskPart K V E) (kept : IsKept eq layers) → StandsFor eq desk w → SoundDesk eq w → w.size ≡ kept.world.desk.size → handed_to kept.world.desk ≡ handed_to w
+  with_desk_at : (layers : CacheLayers K V E S H same hash build hasher) (desk : Desk K V E S H same hash build hasher) (w : DeskPart K V E) (kept : IsKept eq layers) → StandsFor eq desk w → SoundDesk eq w → w.size ≡ kept.world.desk.size → handed_to kept.world.desk ≡ handed_to w
       → kept.world.desk.last ≤ w.last → (after : IsKept eq (record layers { desk = desk })) × (after.world.desk ≡ w)
   with_desk_at layers desk w kept stands sound size handed last =
       let stay = kept.stands.stay in (
@@ -53,12 +55,12 @@ module _ {K V E : Type 0} {same : PartialEq.Ghosts K} {hash : Hash.Ghosts K} (eq
         refl,
       )
 
-  with_desk : (layers : CacheLayers K V E same hash) (desk : Desk K V E same hash) (w : DeskPart K V E) (kept : IsKept eq layers) → StandsFor eq desk w → SoundDesk eq w → w.size ≡ kept.world.desk.size → handed_to kept.world.desk ≡ handed_to w
+  with_desk : (layers : CacheLayers K V E S H same hash build hasher) (desk : Desk K V E S H same hash build hasher) (w : DeskPart K V E) (kept : IsKept eq layers) → StandsFor eq desk w → SoundDesk eq w → w.size ≡ kept.world.desk.size → handed_to kept.world.desk ≡ handed_to w
       → kept.world.desk.last ≤ w.last → IsKept eq (record layers { desk = desk })
   with_desk layers desk w kept stands sound size handed last = (with_desk_at layers desk w kept stands sound size handed last).0
 
   -- the clock moves on, or stays
-  pub kept_at : (layers : CacheLayers K V E same hash) (desk : Desk K V E same hash) (moment : ℕ) → ClockKeepsSound K V E eq
+  pub kept_at : (layers : CacheLayers K V E S H same hash build hasher) (desk : Desk K V E S H same hash build hasher) (moment : ℕ) → ClockKeepsSound K V E eq
       → ((w : DeskPart K V E) → StandsFor eq layers.desk w → StandsFor eq desk (cond (nat_lt moment w.clock) w (record w { clock = moment })))
       → IsKept eq layers → IsKept eq (record layers { desk = desk })
   kept_at layers desk moment law makes kept = by (nat_lt moment kept.world.desk.clock) (makes kept.world.desk kept.stands.desk) where
@@ -67,7 +69,7 @@ module _ {K V E : Type 0} {same : PartialEq.Ghosts K} {hash : Hash.Ghosts K} (eq
     by false stands = with_desk layers desk (record kept.world.desk { clock = moment }) kept stands (law kept.world.desk moment kept.sound) refl refl (omega arith)
 
   -- it is forgotten when some records were seen
-  pub kept_forgot : (layers : CacheLayers K V E same hash) (desk : Desk K V E same hash) (gone : ℕ → Bool)
+  pub kept_forgot : (layers : CacheLayers K V E S H same hash build hasher) (desk : Desk K V E S H same hash build hasher) (gone : ℕ → Bool)
       → ((w : DeskPart K V E) → StandsFor eq layers.desk w → StandsFor eq desk (forgotten gone w))
       → IsKept eq layers → IsKept eq (record layers { desk = desk })
   kept_forgot layers desk gone makes kept =
@@ -87,7 +89,7 @@ module _ {K V E : Type 0} {same : PartialEq.Ghosts K} {hash : Hash.Ghosts K} (eq
       }) refl refl (omega arith)
 
   -- all is invalidated
-  pub kept_hidden : (layers : CacheLayers K V E same hash) (desk : Desk K V E same hash) → VisitsKeepSound K V E eq
+  pub kept_hidden : (layers : CacheLayers K V E S H same hash build hasher) (desk : Desk K V E S H same hash build hasher) → VisitsKeepSound K V E eq
       → ((w : DeskPart K V E) → StandsFor eq layers.desk w → MayVisit w visit.InvalidateAll → StandsFor eq desk (makes eq w visit.InvalidateAll))
       → IsKept eq layers → IsKept eq (record layers { desk = desk })
   kept_hidden layers desk law hides kept =
@@ -95,7 +97,7 @@ module _ {K V E : Type 0} {same : PartialEq.Ghosts K} {hash : Hash.Ghosts K} (eq
       (law kept.world.desk visit.InvalidateAll kept.sound tt) refl refl (omega arith)
 
   -- it is at the moment or later then
-  pub clock_at : (layers : CacheLayers K V E same hash) (desk : Desk K V E same hash) (moment : ℕ)
+  pub clock_at : (layers : CacheLayers K V E S H same hash build hasher) (desk : Desk K V E S H same hash build hasher) (moment : ℕ)
       → ((w : DeskPart K V E) → StandsFor eq layers.desk w → StandsFor eq desk (cond (nat_lt moment w.clock) w (record w { clock = moment })))
       → IsKept eq layers → (w : DeskPart K V E) → StandsFor eq desk w → moment ≤ w.clock
   clock_at layers desk moment makes kept w stands = by (nat_lt moment kept.world.desk.clock) refl (makes kept.world.desk kept.stands.desk) where
@@ -104,7 +106,7 @@ module _ {K V E : Type 0} {same : PartialEq.Ghosts K} {hash : Hash.Ghosts K} (eq
     by false e at = let is : moment ≡ w.clock = sym at.clock ∙ stands.clock in omega (arith, is)
 
   -- a number is given out, or none is left
-  pub kept_entered : (layers : CacheLayers K V E same hash) (desk : Desk K V E same hash) (r : Option ℕ) → EnteringKeepsSound K V E eq
+  pub kept_entered : (layers : CacheLayers K V E S H same hash build hasher) (desk : Desk K V E S H same hash build hasher) (r : Option ℕ) → EnteringKeepsSound K V E eq
       → ((w : DeskPart K V E) → StandsFor eq layers.desk w → r ≡ cond (w.last == last_call) None (Some (w.last + 1)))
       → ((w : DeskPart K V E) → StandsFor eq layers.desk w → MatchOption r (StandsFor eq desk w) (λ n. StandsFor eq desk (record w { last = n })))
       → IsKept eq layers → IsKept eq (record layers { desk = desk })
@@ -118,7 +120,7 @@ module _ {K V E : Type 0} {same : PartialEq.Ghosts K} {hash : Hash.Ghosts K} (eq
       next false e = let is : n ≡ kept.world.desk.last + 1 = cc in omega (arith, is)
 
   -- the number that is given out is the next
-  pub next_entered : (layers : CacheLayers K V E same hash) (desk : Desk K V E same hash) (n m : ℕ) → m ≡ n
+  pub next_entered : (layers : CacheLayers K V E S H same hash build hasher) (desk : Desk K V E S H same hash build hasher) (n m : ℕ) → m ≡ n
       → ((w : DeskPart K V E) → StandsFor eq layers.desk w → Some n ≡ cond (w.last == last_call) None (Some (w.last + 1)))
       → ((w : DeskPart K V E) → StandsFor eq layers.desk w → StandsFor eq desk (record w { last = n }))
       → (w : DeskPart K V E) → StandsFor eq layers.desk w → (m ≡ w.last + 1) × StandsFor eq desk (record w { last = m })
@@ -131,7 +133,7 @@ module _ {K V E : Type 0} {same : PartialEq.Ghosts K} {hash : Hash.Ghosts K} (eq
 
   -- some sound desk has given it out last
   -- and none is 0
-  pub first_entered : (layers : CacheLayers K V E same hash) (n m : ℕ) → m ≡ n
+  pub first_entered : (layers : CacheLayers K V E S H same hash build hasher) (n m : ℕ) → m ≡ n
       → ((w : DeskPart K V E) → StandsFor eq layers.desk w → Some n ≡ cond (w.last == last_call) None (Some (w.last + 1)))
       → IsKept eq layers → 0 < m
   first_entered layers n m is finds kept = subst (λ x. 0 < x) (sym is) (first (kept.world.desk.last == last_call) (finds kept.world.desk kept.stands.desk)) where
@@ -140,7 +142,7 @@ module _ {K V E : Type 0} {same : PartialEq.Ghosts K} {hash : Hash.Ghosts K} (eq
     first false e = let is : n ≡ kept.world.desk.last + 1 = cc in omega (arith, is)
 
   -- where none is left, the greatest was given out
-  pub spent_entered : (layers : CacheLayers K V E same hash) (r : Option ℕ)
+  pub spent_entered : (layers : CacheLayers K V E S H same hash build hasher) (r : Option ℕ)
       → ((w : DeskPart K V E) → StandsFor eq layers.desk w → r ≡ cond (w.last == last_call) None (Some (w.last + 1)))
       → IfNone r ((w : DeskPart K V E) → StandsFor eq layers.desk w → w.last ≡ last_call)
   spent_entered layers (Some n) finds = tt
@@ -150,14 +152,14 @@ module _ {K V E : Type 0} {same : PartialEq.Ghosts K} {hash : Hash.Ghosts K} (eq
     by w false is found = absurd (none-some (w.last + 1) found)
 
   -- a call leaves
-  pub kept_left : (layers : CacheLayers K V E same hash) (desk : Desk K V E same hash) (call : ℕ) (held : Option Owed) → LeavingKeepsSound K V E eq
+  pub kept_left : (layers : CacheLayers K V E S H same hash build hasher) (desk : Desk K V E S H same hash build hasher) (call : ℕ) (held : Option Owed) → LeavingKeepsSound K V E eq
       → ((w : DeskPart K V E) → StandsFor eq layers.desk w → MayLeave w call (option_map (λ o. o.write) held) → StandsFor eq desk (left w call held))
       → (kept : IsKept eq layers) → MayLeave kept.world.desk call (option_map (λ o. o.write) held) → IsKept eq (record layers { desk = desk })
   kept_left layers desk call held law makes kept may =
       with_desk layers desk (left kept.world.desk call held) kept (makes kept.world.desk kept.stands.desk may) (law kept.world.desk call held kept.sound may) refl refl (omega arith)
 
   -- a call is told an answer, and it is there to be taken then
-  told_at : (layers : CacheLayers K V E same hash) (desk : Desk K V E same hash) (call : ℕ) (answer : Told V E) → TellingKeepsSound K V E eq
+  told_at : (layers : CacheLayers K V E S H same hash build hasher) (desk : Desk K V E S H same hash build hasher) (call : ℕ) (answer : Told V E) → TellingKeepsSound K V E eq
       → (kept : IsKept eq layers) → StandsFor eq desk (told kept.world.desk call answer)
       → (after : IsKept eq (record layers { desk = desk })) × (after.world.desk ≡ told kept.world.desk call answer)
   told_at layers desk call answer law kept stands = by answer stands (law kept.world.desk call answer kept.sound) where
@@ -170,13 +172,13 @@ module _ {K V E : Type 0} {same : PartialEq.Ghosts K} {hash : Hash.Ghosts K} (eq
     by tells.Done stands sound = with_desk_at layers desk (told kept.world.desk call tells.Done) kept stands sound refl refl (omega arith)
     by tells.Off stands sound = with_desk_at layers desk (told kept.world.desk call tells.Off) kept stands sound refl refl (omega arith)
 
-  pub kept_told : {A : Type 0} (layers : CacheLayers K V E same hash) (desk : Desk K V E same hash) (call : ℕ) (answer : Told V E) (r : Option A) → TellingKeepsSound K V E eq
+  pub kept_told : {A : Type 0} (layers : CacheLayers K V E S H same hash build hasher) (desk : Desk K V E S H same hash build hasher) (call : ℕ) (answer : Told V E) (r : Option A) → TellingKeepsSound K V E eq
       → ((w : DeskPart K V E) → StandsFor eq layers.desk w → StandsFor eq desk (cond (is_some r) (told w call answer) w))
       → IsKept eq layers → IsKept eq (record layers { desk = desk })
   kept_told layers desk call answer (Some a) law makes kept = (told_at layers desk call answer law kept (makes kept.world.desk kept.stands.desk)).0
   kept_told layers desk call answer None law makes kept = with_desk layers desk kept.world.desk kept (makes kept.world.desk kept.stands.desk) kept.sound refl refl (omega arith)
 
-  pub told_there : {A : Type 0} (layers : CacheLayers K V E same hash) (desk : Desk K V E same hash) (call : ℕ) (answer : Told V E) (r : Option A) → TellingKeepsSound K V E eq
+  pub told_there : {A : Type 0} (layers : CacheLayers K V E S H same hash build hasher) (desk : Desk K V E S H same hash build hasher) (call : ℕ) (answer : Told V E) (r : Option A) → TellingKeepsSound K V E eq
       → ((w : DeskPart K V E) → StandsFor eq layers.desk w → StandsFor eq desk (cond (is_some r) (told w call answer) w))
       → IsKept eq layers → is_of_call answer ≡ true → OnSome r (IsToldTo eq (record layers { desk = desk }) call answer)
   told_there layers desk call answer (Some a) law makes kept own =

@@ -6,6 +6,8 @@ use Rattle.std.specs.HashMap.{hash_map_len}
 use Rattle.std.specs.Option.{option_map, option_map_or}
 use Rattle.std.specs.declared.cmp.PartialEq as PartialEq
 use Rattle.std.specs.declared.hash.Hash as Hash
+use Rattle.std.specs.declared.hash.Hasher as Hasher
+use Rattle.std.specs.declared.hash.BuildHasher as BuildHasher
 use Rattle.moka_hist.specs.State.{DeskPart, World}
 use Rattle.moka_hist.specs.Tables.{answer_of}
 use Rattle.moka_hist.specs.Visible.{is_visible}
@@ -58,9 +60,9 @@ seen w none None = refl
 seen w none (Some pair) =
     ap (λ hit. is_visible w.desk.rules (times_at w.desk pair.1.stamp pair.1.modified) hit) (unhit w.desk pair.0 pair.1 none w.desk.registered)
 
-module _ {K V E : Type 0} {same : PartialEq.Ghosts K} {hash : Hash.Ghosts K} (eq : K → K → Bool) where
+module _ {K V E S H : Type 0} {same : PartialEq.Ghosts K} {hash : Hash.Ghosts K} {build : BuildHasher.Ghosts S H} {hasher : Hasher.Ghosts H} (eq : K → K → Bool) where
   -- a table that is as it was leaves the world that is kept
-  pub kept_table : (layers : CacheLayers K V E same hash) (table : PlainTable K V) → SameMap (map_of eq layers.table) (map_of eq table)
+  pub kept_table : (layers : CacheLayers K V E S H same hash build hasher) (table : PlainTable K V S H) → SameMap (map_of eq layers.table) (map_of eq table)
       → hash_map_len table.pairs ≡ hash_map_len layers.table.pairs → peak_of table ≡ peak_of layers.table → IsKept eq layers → IsKept eq (record layers { table = table })
   kept_table layers table map count peak kept =
       let there = kept.stands.table in
@@ -81,7 +83,7 @@ module _ {K V E : Type 0} {same : PartialEq.Ghosts K} {hash : Hash.Ghosts K} (eq
       }
 
   -- where the layers stand for a world, a get sees what their table has of the key where it is visible
-  pub sees_there : (layers : CacheLayers K V E same hash) (w : World K V E) (key : K) → WorldIs eq (plain_table eq) in_hand layers w
+  pub sees_there : (layers : CacheLayers K V E S H same hash build hasher) (w : World K V E) (key : K) → WorldIs eq (plain_table eq) in_hand layers w
       → sees w key ≡ shows w.desk (option_map (λ pair. mark_of pair.1) (map_of eq layers.table key))
   sees_there layers w key stands =
       seen w stands.handed.predicates (w.table.stored key)

@@ -2,6 +2,8 @@
 use Rattle.std.proofs.Common.{◌≡◌, ◌≢◌, ◌≤◌, ◌<◌, ◌+◌, ◌==◌, ℕ, Bool, true, false, cond, [], Option, Some, None, Result, Ok, Err, IfOk, OnOk, OnErr, MatchOption, refl, sym, ap, ◌∙◌, subst, arith}
 use Rattle.std.specs.declared.cmp.PartialEq as PartialEq
 use Rattle.std.specs.declared.hash.Hash as Hash
+use Rattle.std.specs.declared.hash.Hasher as Hasher
+use Rattle.std.specs.declared.hash.BuildHasher as BuildHasher
 use Rattle.moka_hist.specs.Bound.{most_undecided, times_of}
 use Rattle.moka_hist.specs.Next.{Next}
 use Rattle.moka_hist.specs.SoundDesk.{SoundDesk}
@@ -51,22 +53,22 @@ fresh_none {K} {V} {E} flow none = subst (λ b. wanted None (want_for b (access_
   by (On_desk made) = refl
 
 -- a plain table decides at each step
-pub plain_decides : {K V : Type 0} (eq : K → K → Bool) → AlwaysDecides (plain_table {K = K} {V = V} eq)
+pub plain_decides : {K V S H : Type 0} (eq : K → K → Bool) → AlwaysDecides (plain_table {K = K} {V = V} {S = S} {H = H} eq)
 plain_decides eq = (plain_left, λ t c. refl)
 
 -- what the desk allows the flow it may want
-may_want : {K V E : Type 0} (eq : K → K → Bool) (begun : Option (PlainCall K V)) (flow : Flow K V E) (w : World K V E) → begun ≡ None → HasBegun None flow → May w (access_at flow)
-    → MayWant w (operation_in (plain_table eq) begun) (wish_of flow)
-may_want {K} {V} {E} eq begun flow w none has may =
-    subst (λ (b : Option (PlainCall K V)). MayWant w (operation_in (plain_table eq) b) (wish_of flow)) (sym none)
+may_want : {K V E : Type 0} (S H : Type 0) (eq : K → K → Bool) (begun : Option (PlainCall K V)) (flow : Flow K V E) (w : World K V E) → begun ≡ None → HasBegun None flow → May w (access_at flow)
+    → MayWant w (operation_in (plain_table {S = S} {H = H} eq) begun) (wish_of flow)
+may_want {K} {V} {E} S H eq begun flow w none has may =
+    subst (λ (b : Option (PlainCall K V)). MayWant w (operation_in (plain_table {S = S} {H = H} eq) b) (wish_of flow)) (sym none)
     (subst (λ (o : Option (Access K V E)). MatchOption o ⊥ (λ access. May w access)) (sym has) may)
 
-module _ {K V E : Type 0} {same : PartialEq.Ghosts K} {hash : Hash.Ghosts K} (eq : K → K → Bool) where
+module _ {K V E S H : Type 0} {same : PartialEq.Ghosts K} {hash : Hash.Ghosts K} {build : BuildHasher.Ghosts S H} {hasher : Hasher.Ghosts H} (eq : K → K → Bool) where
   -- the world, as the call of a number that was given out reaches it
-  pub reached_by : (layers : CacheLayers K V E same hash) (call : ℕ) (kept : IsKept eq layers) → call ≤ kept.world.desk.last
+  pub reached_by : (layers : CacheLayers K V E S H same hash build hasher) (call : ℕ) (kept : IsKept eq layers) → call ≤ kept.world.desk.last
       → ReachIs eq (record layers { call = call }) kept.world
   reached_by layers call kept given =
-      let t = plain_table {K = K} {V = V} eq in
+      let t = plain_table {K = K} {V = V} {S = S} {H = H} eq in
       let peak = kept.stands.table.peak in
       let never = none_so_often kept.world.stay call kept.decided in
       let patient : times_of kept.world.stay call + most_on t layers.table ≤ most_undecided kept.world.table = omega (arith, peak, never) in
@@ -84,7 +86,7 @@ module _ {K V E : Type 0} {same : PartialEq.Ghosts K} {hash : Hash.Ghosts K} (eq
       }
 
   -- the world, with a state of the desk that allows what is wanted
-  abbrev pub allowing : (layers : CacheLayers K V E same hash) (kept : IsKept eq layers) (P : DeskPart K V E → Type 0) → AllowsAlike eq layers.desk kept.world.desk P → IsKept eq layers
+  abbrev pub allowing : (layers : CacheLayers K V E S H same hash build hasher) (kept : IsKept eq layers) (P : DeskPart K V E → Type 0) → AllowsAlike eq layers.desk kept.world.desk P → IsKept eq layers
   allowing layers kept P alike = record {
     world = record kept.world { desk = with_past kept.world.desk alike.applied alike.notices };
     stands = record { table = kept.stands.table; desk = alike.stands; handed = kept.stands.handed; stay = kept.stands.stay };
@@ -96,12 +98,12 @@ module _ {K V E : Type 0} {same : PartialEq.Ghosts K} {hash : Hash.Ghosts K} (eq
   }
 
   -- such a world where nothing is begun is kept
-  pub kept_of : (layers : CacheLayers K V E same hash) (w : World K V E) → ReachIs eq layers w → layers.begun ≡ None → IsKept eq layers
+  pub kept_of : (layers : CacheLayers K V E S H same hash build hasher) (w : World K V E) → ReachIs eq layers w → layers.begun ≡ None → IsKept eq layers
   kept_of layers w reach none =
       record { world = w; stands = reach.ground.world; sound = reach.sound; log = reach.log; decided = reach.decided; none_begun = none; unlisted = reach.unlisted }
 
   -- an access keeps all of it
-  pub gives_reach : VisitsKeepSound K V E eq → (old new : CacheLayers K V E same hash) (access : Access K V E) (given : Got K V E)
+  pub gives_reach : VisitsKeepSound K V E eq → (old new : CacheLayers K V E S H same hash build hasher) (access : Access K V E) (given : Got K V E)
       → Serves eq (plain_table eq) in_hand old access given new → given ≢ got.Table table.Going
       → (w : World K V E) → ReachIs eq old w → May w access
       → (after : World K V E) × Gets eq old.call w access given after × ReachIs eq new after
@@ -141,7 +143,7 @@ module _ {K V E : Type 0} {same : PartialEq.Ghosts K} {hash : Hash.Ghosts K} (eq
       unlisted (On_desk v) (got.Table t) after gets apart n = absurd gets
       unlisted (On_desk v) (got.Desk f) after gets apart n = ap (λ (x : World K V E). x.table.listings n) gets.1 ∙ reach.unlisted n
 
-  pub gives_all : {F : Type 0} → VisitsKeepSound K V E eq → (old new : CacheLayers K V E same hash) (wish : Want K V E) (r : Result (Got K V E) F)
+  pub gives_all : {F : Type 0} → VisitsKeepSound K V E eq → (old new : CacheLayers K V E S H same hash build hasher) (wish : Want K V E) (r : Result (Got K V E) F)
       → IfOk r (λ given. OfWanted (account_of (plain_table eq) old) wish (λ access. Serves eq (plain_table eq) in_hand old access given new))
       → IfOk r (λ given. Decides (plain_table eq) given new)
       → IfOk r (λ given. OfWanted (account_of (plain_table eq) old) wish (λ access. Gives eq old.call (ReachIs eq old) access given (ReachIs eq new)))
@@ -150,32 +152,32 @@ module _ {K V E : Type 0} {same : PartialEq.Ghosts K} {hash : Hash.Ghosts K} (eq
   gives_all law old new wish (Err e) serves decides = tt
 
   -- so does want of memory
-  pub stays_reach : (old new : CacheLayers K V E same hash) → LayersStay eq (plain_table eq) in_hand old new → (w : World K V E) → ReachIs eq old w → ReachIs eq new w
+  pub stays_reach : (old new : CacheLayers K V E S H same hash build hasher) → LayersStay eq (plain_table eq) in_hand old new → (w : World K V E) → ReachIs eq old w → ReachIs eq new w
   stays_reach old new stays w reach = record { ground = (stays w reach.ground).0; sound = reach.sound; log = reach.log; decided = reach.decided; unlisted = reach.unlisted }
 
   -- nothing is begun then where nothing was
-  pub none_then : {F : Type 0} (r : Result (Got K V E) F) (old new : CacheLayers K V E same hash) → ((w : World K V E) × GroundIs eq (plain_table eq) in_hand old w)
+  pub none_then : {F : Type 0} (r : Result (Got K V E) F) (old new : CacheLayers K V E S H same hash build hasher) → ((w : World K V E) × GroundIs eq (plain_table eq) in_hand old w)
       → IfOk r (λ given. Decides (plain_table eq) given new) → OnErr r (LayersStay eq (plain_table eq) in_hand old new)
       → OnErr r (account_of (plain_table eq) new ≡ account_of (plain_table eq) old) → old.begun ≡ None → new.begun ≡ None
-  none_then (Ok given) old new some decides stays account none = (decides (plain_decides eq)).1
+  none_then (Ok given) old new some decides stays account none = (decides (plain_decides {S = S} {H = H} eq)).1
   none_then (Err e) old new some decides stays account none =
       none_begun (plain_table eq) new.table new.begun (stays some.0 some.1).0.begun.fits
-      (ap (λ a. a.begun) account ∙ ap (operation_in (plain_table eq)) none)
+      (ap (λ a. a.begun) account ∙ ap (operation_in (plain_table {S = S} {H = H} eq)) none)
 
   -- the ground is that of the flow, and serves what it wants
-  pub is_on : (layers : CacheLayers K V E same hash) (call : ℕ) (flow : Flow K V E) → call ≡ flow.call → layers.begun ≡ None → HasBegun None flow
+  pub is_on : (layers : CacheLayers K V E S H same hash build hasher) (call : ℕ) (flow : Flow K V E) → call ≡ flow.call → layers.begun ≡ None → HasBegun None flow
       → IsOn (account_of (plain_table eq) (record layers { call = call })) flow
   is_on layers call flow number none has = record {
     call = number;
-    begun = subst (λ (b : Option (PlainCall K V)). HasBegun (operation_in (plain_table eq) b) flow) (sym none) has;
+    begun = subst (λ (b : Option (PlainCall K V)). HasBegun (operation_in (plain_table {S = S} {H = H} eq) b) flow) (sym none) has;
   }
 
-  pub fits_on : (layers : CacheLayers K V E same hash) (call : ℕ) (flow : Flow K V E) (kept : IsKept eq layers) → call ≤ kept.world.desk.last → HasBegun None flow
+  pub fits_on : (layers : CacheLayers K V E S H same hash build hasher) (call : ℕ) (flow : Flow K V E) (kept : IsKept eq layers) → call ≤ kept.world.desk.last → HasBegun None flow
       → May kept.world (access_at flow) → MayReach eq (record layers { call = call }) (wish_of flow)
-  fits_on layers call flow kept given has may = (kept.world, reached_by layers call kept given, may_want eq layers.begun flow kept.world kept.none_begun has may)
+  fits_on layers call flow kept given has may = (kept.world, reached_by layers call kept given, may_want S H eq layers.begun flow kept.world kept.none_begun has may)
 
   -- the step of a flow, in a world that the ground stands for
-  pub step_ends : (such : Taken V E → Type 0) (old new : CacheLayers K V E same hash) (flow : Flow K V E) (next : Next K V E) (w : World K V E) → ReachIs eq old w → ReadsItsKind w.desk flow.call (call_of flow) → May w (access_at flow)
+  pub step_ends : (such : Taken V E → Type 0) (old new : CacheLayers K V E S H same hash build hasher) (flow : Flow K V E) (next : Next K V E) (w : World K V E) → ReachIs eq old w → ReadsItsKind w.desk flow.call (call_of flow) → May w (access_at flow)
       → ((given : Got K V E) (after : World K V E) → Gets eq flow.call w (access_at flow) given after → TookBy (access_at flow) given such)
       → MovesThere eq (ReachIs eq old) flow next (ReachIs eq new) → EndedWith eq such flow.call (call_of flow) next
   step_ends such old new flow next w reach ends may took moves =
@@ -188,16 +190,16 @@ module _ {K V E : Type 0} {same : PartialEq.Ghosts K} {hash : Hash.Ghosts K} (eq
         follows = m.1.goes;
       }
 
-  pub step_keeps : {A F : Type 0} (r : Result A F) (next : A → Next K V E) (old new : CacheLayers K V E same hash) (flow : Flow K V E) (w : World K V E) → ReachIs eq old w → May w (access_at flow)
+  pub step_keeps : {A F : Type 0} (r : Result A F) (next : A → Next K V E) (old new : CacheLayers K V E S H same hash build hasher) (flow : Flow K V E) (w : World K V E) → ReachIs eq old w → May w (access_at flow)
       → IfOk r (λ a. MovesThere eq (ReachIs eq old) flow (next a) (ReachIs eq new))
       → OnErr r ((w : World K V E) → ReachIs eq old w → ReachIs eq new w) → new.begun ≡ None → IsKept eq new
   step_keeps (Ok a) next old new flow w reach may moves stays none = let m = moves w reach may in kept_of new m.0 m.2 none
   step_keeps (Err e) next old new flow w reach may moves stays none = kept_of new w (stays w reach) none
 
   -- the flow has none begun after the step either
-  pub none_on : {A F : Type 0} (r : Result A F) (new : CacheLayers K V E same hash) (flow on : Flow K V E) → HasBegun None flow → new.begun ≡ None
+  pub none_on : {A F : Type 0} (r : Result A F) (new : CacheLayers K V E S H same hash build hasher) (flow on : Flow K V E) → HasBegun None flow → new.begun ≡ None
       → OnOk r (IsOn (account_of (plain_table eq) new) on) → OnErr r (StandsStill flow on) → HasBegun None on
-  none_on (Ok a) new flow on has none is stands = subst (λ (b : Option (PlainCall K V)). HasBegun (operation_in (plain_table eq) b) on) none is.begun
+  none_on (Ok a) new flow on has none is stands = subst (λ (b : Option (PlainCall K V)). HasBegun (operation_in (plain_table {S = S} {H = H} eq) b) on) none is.begun
   none_on (Err e) new flow on has none is stands = still_none flow on stands has
 
 -- what a visit needs of the desk, its world has

@@ -5,6 +5,8 @@ use Rattle.std.proofs.lemmas.Option.{none-some, same_Some}
 use Rattle.std.specs.Bool.{OnTrue}
 use Rattle.std.specs.declared.cmp.PartialEq as PartialEq
 use Rattle.std.specs.declared.hash.Hash as Hash
+use Rattle.std.specs.declared.hash.Hasher as Hasher
+use Rattle.std.specs.declared.hash.BuildHasher as BuildHasher
 use Rattle.moka_hist.specs.Conditions.{MayVisit}
 use Rattle.moka_needs.specs.Needs.{IsOfCall, need_of}
 use Rattle.moka_hist.specs.Plan.{Item}
@@ -80,7 +82,7 @@ module _ {K V E : Type 0} where
     by [] = refl
     by (item ∷ rest) = of_item n c.carried item
 
-module _ {K V E : Type 0} {same : PartialEq.Ghosts K} {hash : Hash.Ghosts K} (eq : K → K → Bool) (desk : Desk K V E same hash) (w : DeskPart K V E) (h : StandsFor eq desk w) where
+module _ {K V E S H : Type 0} {same : PartialEq.Ghosts K} {hash : Hash.Ghosts K} {build : BuildHasher.Ghosts S H} {hasher : Hasher.Ghosts H} (eq : K → K → Bool) (desk : Desk K V E S H same hash build hasher) (w : DeskPart K V E) (h : StandsFor eq desk w) where
   -- the desk allows the call's next access, where it allows each visit of the call that needs what
   -- that needs
   pub allowed : (n : ℕ) (c : Call K V E) (need : Need K) → Some need ≡ need_at (access_of n c)

@@ -2,6 +2,8 @@
 use Rattle.std.specs.Prelude.{◌≡◌, ◌<◌, ℕ, Bool, true, false, Some, None}
 use Rattle.std.specs.declared.cmp.PartialEq as PartialEq
 use Rattle.std.specs.declared.hash.Hash as Hash
+use Rattle.std.specs.declared.hash.Hasher as Hasher
+use Rattle.std.specs.declared.hash.BuildHasher as BuildHasher
 use Rattle.moka_hist.specs.SoundDesk.{SoundDesk}
 use Rattle.moka_hist.specs.Conditions.{MayVisit}
 use Rattle.moka_hist.specs.State.{DeskPart, Handed, World}
@@ -38,14 +40,16 @@ none_handed =
     }
 
 -- the layers of a cache: over the plain table, with the answer of a test in hand
-abbrev pub CacheLayers : (K V E : Type 0) → PartialEq.Ghosts K → Hash.Ghosts K → Type 0
-CacheLayers K V E same hash =
-    Layers K V E (PlainTable K V) (PlainCall K V) InHand same hash
+abbrev pub CacheLayers : (K V E S H : Type 0) → PartialEq.Ghosts K → Hash.Ghosts K
+    → BuildHasher.Ghosts S H → Hasher.Ghosts H → Type 0
+CacheLayers K V E S H same hash build hasher =
+    Layers K V E (PlainTable K V S H) (PlainCall K V) InHand S H same hash build hasher
 
 -- Some sound world is that of the layers. Its log has room for a write once it is empty, and no
 -- operation of its table is begun or stayed undecided, and no list of keys.
-pub record IsKept {K V E : Type 0} {same : PartialEq.Ghosts K} {hash : Hash.Ghosts K}
-    (eq : K → K → Bool) (layers : CacheLayers K V E same hash) : Type 0 where
+pub record IsKept {K V E S H : Type 0} {same : PartialEq.Ghosts K} {hash : Hash.Ghosts K}
+    {build : BuildHasher.Ghosts S H} {hasher : Hasher.Ghosts H}
+    (eq : K → K → Bool) (layers : CacheLayers K V E S H same hash build hasher) : Type 0 where
   pub world : World K V E
   pub stands : WorldIs eq (plain_table eq) in_hand layers world
   pub sound : SoundDesk eq world.desk
@@ -55,24 +59,30 @@ pub record IsKept {K V E : Type 0} {same : PartialEq.Ghosts K} {hash : Hash.Ghos
   pub unlisted : (n : ℕ) → world.table.listings n ≡ None
 
 -- It is so, and the answer is there to be taken by the call of this number.
-pub record IsToldTo {K V E : Type 0} {same : PartialEq.Ghosts K} {hash : Hash.Ghosts K}
-    (eq : K → K → Bool) (layers : CacheLayers K V E same hash) (n : ℕ) (told : Told V E) : Type 0
+pub record IsToldTo {K V E S H : Type 0} {same : PartialEq.Ghosts K} {hash : Hash.Ghosts K}
+    {build : BuildHasher.Ghosts S H} {hasher : Hasher.Ghosts H}
+    (eq : K → K → Bool) (layers : CacheLayers K V E S H same hash build hasher) (n : ℕ)
+    (told : Told V E) : Type 0
   where
     pub kept : IsKept eq layers
     pub there : kept.world.desk.told n ≡ Some told
 
 -- What was brought is there for the next step of the call of this number, which takes an answer to
 -- its own ask or doesn't.
-abbrev pub IsBrought : {K V E : Type 0} {same : PartialEq.Ghosts K} {hash : Hash.Ghosts K}
-    → (K → K → Bool) → CacheLayers K V E same hash → ℕ → Brought V E → Bool → Type 0
+abbrev pub IsBrought : {K V E S H : Type 0} {same : PartialEq.Ghosts K} {hash : Hash.Ghosts K}
+    {build : BuildHasher.Ghosts S H} {hasher : Hasher.Ghosts H}
+    → (K → K → Bool) → CacheLayers K V E S H same hash build hasher → ℕ → Brought V E → Bool →
+    Type 0
 IsBrought eq layers n brought.Nothing takes = takes ≡ false
 IsBrought eq layers n (brought.Told told) takes = (takes ≡ true) × IsToldTo eq layers n told
 IsBrought eq layers n (brought.Tested replaced) takes =
     (takes ≡ false) × (layers.tests.replaced ≡ replaced)
 
 -- What the ground of a poll stands for: a world as above, as the call of this number reaches it.
-pub record ReachIs {K V E : Type 0} {same : PartialEq.Ghosts K} {hash : Hash.Ghosts K}
-    (eq : K → K → Bool) (layers : CacheLayers K V E same hash) (w : World K V E) : Type 0 where
+pub record ReachIs {K V E S H : Type 0} {same : PartialEq.Ghosts K} {hash : Hash.Ghosts K}
+    {build : BuildHasher.Ghosts S H} {hasher : Hasher.Ghosts H}
+    (eq : K → K → Bool) (layers : CacheLayers K V E S H same hash build hasher)
+    (w : World K V E) : Type 0 where
   pub ground : GroundIs eq (plain_table eq) in_hand layers w
   pub sound : SoundDesk eq w.desk
   pub log : 0 < w.desk.size
@@ -80,11 +90,12 @@ pub record ReachIs {K V E : Type 0} {same : PartialEq.Ghosts K} {hash : Hash.Gho
   pub unlisted : (n : ℕ) → w.table.listings n ≡ None
 
 -- some such world allows what is wanted
-abbrev pub MayReach : {K V E : Type 0} {same : PartialEq.Ghosts K} {hash : Hash.Ghosts K} →
-    (K → K → Bool) → CacheLayers K V E same hash → Want K V E → Type 0
-MayReach {K} {V} {E} eq layers wish =
+abbrev pub MayReach : {K V E S H : Type 0} {same : PartialEq.Ghosts K} {hash : Hash.Ghosts K}
+    {build : BuildHasher.Ghosts S H} {hasher : Hasher.Ghosts H} →
+    (K → K → Bool) → CacheLayers K V E S H same hash build hasher → Want K V E → Type 0
+MayReach {K} {V} {E} {S} {H} eq layers wish =
     (w : World K V E) × ReachIs eq layers w
-    × MayWant w (operation_in (plain_table eq) layers.begun) wish
+    × MayWant w (operation_in (plain_table {S = S} {H = H} eq) layers.begun) wish
 
 -- the desk has what the access needs, if it is a visit
 abbrev pub MayMake : {K V E : Type 0} → DeskPart K V E → Access K V E → Type 0

@@ -5,3 +5,4 @@ pub mod Parked
 pub mod Rests
 pub mod Stops
 pub mod Counts
+pub mod Ends

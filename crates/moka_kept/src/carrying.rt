@@ -8,9 +8,9 @@ ghost use Rattle.moka_kept.specs.Kept.{IsKept};
 
 use crate::ground::Reach;
 use moka_values::Exact;
-use std::hash::Hash;
+use std::hash::{BuildHasher, Hash};
 
-impl<K: Eq + Hash + Exact, V: Exact, E: Exact> Reach<K, V, E> {
+impl<K: Eq + Hash + Exact, V: Exact, E: Exact, S: BuildHasher + Drop> Reach<K, V, E, S> {
     /// Ends a hold of a call that carried a record as it began (`before`), or not, and carries one
     /// now (`after`), or not. Where no call carries one, the desk forgets when those records were
     /// seen that have left; else it forgets nothing, since a call judges what it carries by that

@@ -1,5 +1,5 @@
 //! A notice that is due.
-ghost use Rattle.std.specs.Prelude.{◌≡◌};
+ghost use Rattle.std.specs.Prelude.{◌≡◌, IfSome};
 
 use crate::listener::Listener;
 use moka_hist::Cause;
@@ -28,7 +28,9 @@ impl<K: Drop, V: Drop> DueNotice<K, V> {
     }
 
     /// Starts the listener with it, if there is one.
-    pub fn start<L: Listener<K, V>>(self, listener: &Option<L>) {
+    pub fn start<L: Listener<K, V>>(self, listener: &Option<L>)
+        requires hears { IfSome listener.now (λ l. L.hears l self.key self.value) }
+    {
         let DueNotice {
             notice,
             key,

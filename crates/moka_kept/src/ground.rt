@@ -17,21 +17,23 @@ use moka_sync::CallList;
 use moka_table::{PlainCall, PlainTable};
 use moka_values::Exact;
 use std::alloc::AllocError;
-use std::hash::Hash;
+use std::hash::{BuildHasher, Hash};
 
 /// Table and desk of a cache; the calls that the last visit handed out, if it is one that does; and
 /// how many calls carry a record from one hold of the lock to the next. Each access to this table
 /// decides, so no operation stays begun.
 #[derive(Drop)]
-pub(crate) struct Reach<K: Eq + Hash, V, E> {
-    pub(crate) layers: Layers<K, V, E, PlainTable<K, V>, PlainCall<K, V>, InHand>,
+pub(crate) struct Reach<K: Eq + Hash, V, E, S: BuildHasher> {
+    pub(crate) layers: Layers<K, V, E, PlainTable<K, V, S>, PlainCall<K, V>, InHand, S>,
     woken: Option<CallList>,
     pub(crate) carried: u64,
 }
 
-impl<K: Eq + Hash + Exact, V: Exact, E: Exact> Reach<K, V, E> {
+impl<K: Eq + Hash + Exact, V: Exact, E: Exact, S: BuildHasher + Drop> Reach<K, V, E, S> {
     /// Over these layers, whose last visit handed nobody out, and of which no call carries a record.
-    pub(crate) fn over(layers: Layers<K, V, E, PlainTable<K, V>, PlainCall<K, V>, InHand>) -> Self
+    pub(crate) fn over(
+        layers: Layers<K, V, E, PlainTable<K, V, S>, PlainCall<K, V>, InHand, S>,
+    ) -> Self
         ensures layers { result.layers ≡ layers }
         ensures carried { result.carried ≡ 0 }
     {
@@ -75,7 +77,8 @@ impl<K: Eq + Hash + Exact, V: Exact, E: Exact> Reach<K, V, E> {
     }
 }
 
-impl<K: Eq + Hash + Exact, V: Exact, E: Exact> Ground<K, V, E> for Reach<K, V, E> {
+impl<K: Eq + Hash + Exact, V: Exact, E: Exact, S: BuildHasher + Drop> Ground<K, V, E>
+    for Reach<K, V, E, S> {
     ghost use Rattle.moka_hist.specs.State.{World};
     ghost use Rattle.moka_init.specs.Grounds.{Accesses, Gives, Lacks, NeedsMemory, OfWanted};
     ghost use Rattle.moka_layers.specs.Layers.{account_of};

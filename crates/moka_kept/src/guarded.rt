@@ -20,7 +20,7 @@ use moka_hist::{Rules, Start};
 use moka_values::Exact;
 use std::alloc::{AllocError, Global};
 use std::collections::LinkedList;
-use std::hash::Hash;
+use std::hash::{BuildHasher, Hash};
 use std::sync::Wait;
 
 /// The wakers that a hold of the lock has handed out. It has no `Drop`: `wake` alone lets them go,
@@ -59,20 +59,27 @@ impl ToWake {
 /// returns. It lends nothing of what lies there, so that no listener is polled under the lock, nor
 /// who answers the ask of a call.
 #[derive(Drop)]
-pub struct Guarded<K: Eq + Hash, V, E> {
+pub struct Guarded<K: Eq + Hash, V, E, S: BuildHasher> {
     alloc: Global,
     /// The rules that it was made with.
     pub rules: Rules,
-    locked: Locked<K, V, E>,
+    locked: Locked<K, V, E, S>,
 }
 
-impl<K: Eq + Hash + Exact, V: Exact, E: Exact> Guarded<K, V, E> {
+impl<K: Eq + Hash + Exact, V: Exact, E: Exact, S: BuildHasher + Drop> Guarded<K, V, E, S> {
     /// Makes what an empty cache keeps, where this call number and those before it were given out.
-    /// It is an error only where memory is wanting.
-    pub fn starting_after(alloc: Global, rules: Rules, last: u64) -> Result<Self, AllocError>
+    /// Keys are hashed by clones of this hasher. It is an error only where memory is wanting.
+    pub fn starting_after(
+        alloc: Global,
+        rules: Rules,
+        last: u64,
+        hasher: S,
+    ) -> Result<Self, AllocError>
+    where
+        S: Clone,
         ensures { IfOk result (λ guarded. guarded.rules ≡ rules) }
     {
-        let locked = Locked::starting_after(alloc, rules, last)?;
+        let locked = Locked::starting_after(alloc, rules, last, hasher)?;
         Ok(Guarded {
             alloc,
             rules,

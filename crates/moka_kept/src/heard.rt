@@ -10,7 +10,7 @@ ghost use Rattle.moka_kept.specs.Taking.{end_told};
 use crate::ground::Reach;
 use crate::parked::HandedOut;
 use moka_values::Exact;
-use std::hash::Hash;
+use std::hash::{BuildHasher, Hash};
 
 /// How a listener ends a notice.
 #[derive(Clone, Copy, PartialEq, Eq, Debug)]
@@ -39,9 +39,9 @@ impl Heard {
 
     /// Tells the desk that the notice has ended so, and gives those that it hands out. Answers None
     /// where that doesn't run; nothing has changed then.
-    pub(crate) fn tell<K: Eq + Hash + Exact, V: Exact, E: Exact>(
+    pub(crate) fn tell<K: Eq + Hash + Exact, V: Exact, E: Exact, S: BuildHasher + Drop>(
         self,
-        reach: &mut Reach<K, V, E>,
+        reach: &mut Reach<K, V, E, S>,
     ) -> Option<HandedOut>
         requires { IsKept K.eq reach.old.layers }
         ensures kept { IsKept K.eq reach.new.layers }

@@ -18,7 +18,7 @@ use moka_hist::{Answer, Ask, Rules, Turn};
 use moka_init::Flow;
 use moka_values::Exact;
 use std::alloc::{AllocError, Global};
-use std::hash::Hash;
+use std::hash::{BuildHasher, Hash};
 use std::marker::Model;
 use std::mem;
 
@@ -28,12 +28,12 @@ const MOST_STEPS: usize = 32;
 /// Table and desk, and beside them the wakers of the tasks whose calls wait. Nothing is seen of it
 /// but that they stand for a sound world.
 #[derive(Drop)]
-pub(crate) struct Kept<K: Eq + Hash, V, E> {
-    pub(crate) reach: Reach<K, V, E>,
+pub(crate) struct Kept<K: Eq + Hash, V, E, S: BuildHasher> {
+    pub(crate) reach: Reach<K, V, E, S>,
     parked: Parked,
 }
 
-impl<K: Eq + Hash, V, E> Model for Kept<K, V, E> {
+impl<K: Eq + Hash, V, E, S: BuildHasher> Model for Kept<K, V, E, S> {
     ghost Value = { Unit {0} };
 
     ghost view = { λ k. tt };
@@ -41,7 +41,7 @@ impl<K: Eq + Hash, V, E> Model for Kept<K, V, E> {
     ghost invariant = { λ k. IsKept K.eq k.reach.layers };
 }
 
-impl<K: Eq + Hash + Exact, V: Exact, E: Exact> Kept<K, V, E> {
+impl<K: Eq + Hash + Exact, V: Exact, E: Exact, S: BuildHasher + Drop> Kept<K, V, E, S> {
     ghost use Rattle.futures.specs.Task.{IsArmed, Keeps};
     ghost use Rattle.moka_kept.specs.Rests.{Rests};
     ghost use Rattle.moka_kept.specs.Parked.{IsOwn};
@@ -56,9 +56,13 @@ impl<K: Eq + Hash + Exact, V: Exact, E: Exact> Kept<K, V, E> {
         alloc: Global,
         rules: Rules,
         last: u64,
-    ) -> Result<Self, AllocError> {
+        hasher: S,
+    ) -> Result<Self, AllocError>
+    where
+        S: Clone,
+    {
         Ok(Kept {
-            reach: Reach::starting_after(alloc, rules, last)?,
+            reach: Reach::starting_after(alloc, rules, last, hasher)?,
             parked: Parked::new(alloc),
         })
     }

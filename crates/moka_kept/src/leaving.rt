@@ -13,7 +13,7 @@ use crate::parked::HandedOut;
 use moka_hist::{Owed, Write};
 use moka_init::Flow;
 use moka_values::Exact;
-use std::hash::Hash;
+use std::hash::{BuildHasher, Hash};
 
 /// The call of this number has left: the desk made the visit by which it does, with the write that
 /// its flow held, where that allows it. `Reach::leave` alone makes one.
@@ -22,7 +22,7 @@ pub struct Left {
     call: u64,
 }
 
-impl<K: Eq + Hash + Exact, V: Exact, E: Exact> Reach<K, V, E> {
+impl<K: Eq + Hash + Exact, V: Exact, E: Exact, S: BuildHasher + Drop> Reach<K, V, E, S> {
     /// Lets the call of the flow leave, with the write that it holds, where the desk allows it, and
     /// gives those that it hands out. It takes no memory.
     pub(crate) fn leave(&mut self, flow: &Flow<K, V, E>) -> (Left, Option<HandedOut>)

@@ -18,7 +18,7 @@ use crate::stop::Stop;
 use futures::task::Context;
 use moka_init::Flow;
 use moka_values::Exact;
-use std::hash::Hash;
+use std::hash::{BuildHasher, Hash};
 use std::marker::Model;
 
 /// The flow of a call that has a number, and whose going hasn't been told. Clauses see the flow. It
@@ -77,9 +77,9 @@ impl<K, V, E> Live<K, V, E> {
 
 impl<K: Eq + Hash + Exact, V: Exact, E: Exact> Live<K, V, E> {
     /// Makes steps of the flow with what lies under the lock, as `Kept::go` does.
-    pub(crate) fn go(
+    pub(crate) fn go<S: BuildHasher + Drop>(
         &mut self,
-        kept: &mut Kept<K, V, E>,
+        kept: &mut Kept<K, V, E, S>,
         brought: Brought<V, E>,
         cx: &mut Context<'_>,
         woken: &mut ToWake,

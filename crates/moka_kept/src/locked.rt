@@ -21,24 +21,28 @@ use moka_hist::Rules;
 use moka_init::Flow;
 use moka_values::Exact;
 use std::alloc::{AllocError, Global};
-use std::hash::Hash;
+use std::hash::{BuildHasher, Hash};
 use std::sync::{Mutex, Wait};
 
 /// What lies under the lock, with that lock. Each call takes it once, and has freed it when it
 /// returns.
 #[derive(Drop)]
-pub(crate) struct Locked<K: Eq + Hash, V, E> {
-    kept: Mutex<Kept<K, V, E>>,
+pub(crate) struct Locked<K: Eq + Hash, V, E, S: BuildHasher> {
+    kept: Mutex<Kept<K, V, E, S>>,
 }
 
-impl<K: Eq + Hash + Exact, V: Exact, E: Exact> Locked<K, V, E> {
+impl<K: Eq + Hash + Exact, V: Exact, E: Exact, S: BuildHasher + Drop> Locked<K, V, E, S> {
     /// Makes what an empty cache keeps, as `Kept::starting_after` does.
     pub(crate) fn starting_after(
         alloc: Global,
         rules: Rules,
         last: u64,
-    ) -> Result<Self, AllocError> {
-        let kept = Mutex::new(Kept::starting_after(alloc, rules, last)?);
+        hasher: S,
+    ) -> Result<Self, AllocError>
+    where
+        S: Clone,
+    {
+        let kept = Mutex::new(Kept::starting_after(alloc, rules, last, hasher)?);
         Ok(Locked { kept })
     }
 

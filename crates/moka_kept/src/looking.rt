@@ -15,9 +15,9 @@ use moka_hist::{TableAnswer, TableOp, TableTurn};
 use moka_table::{PlainTable, Table};
 use moka_values::Exact;
 use std::alloc::AllocError;
-use std::hash::Hash;
+use std::hash::{BuildHasher, Hash};
 
-impl<K: Eq + Hash + Exact, V: Exact, E: Exact> Kept<K, V, E> {
+impl<K: Eq + Hash + Exact, V: Exact, E: Exact, S: BuildHasher + Drop> Kept<K, V, E, S> {
     /// Whether the key has a record that is visible, once the clock has moved on to the moment. An
     /// error comes where memory is wanting for a copy of the key or of its record. Nothing but the
     /// clock changes.
@@ -32,7 +32,7 @@ impl<K: Eq + Hash + Exact, V: Exact, E: Exact> Kept<K, V, E> {
     }
 }
 
-impl<K: Eq + Hash + Exact, V: Exact, E: Exact> Reach<K, V, E> {
+impl<K: Eq + Hash + Exact, V: Exact, E: Exact, S: BuildHasher + Drop> Reach<K, V, E, S> {
     ghost use Rattle.moka_layers.specs.Layers.{WorldIs};
     ghost use Rattle.moka_table.specs.Plain.{plain_table};
     ghost use Rattle.moka_kept.specs.Kept.{IsKept, in_hand};
@@ -60,8 +60,8 @@ impl<K: Eq + Hash + Exact, V: Exact, E: Exact> Reach<K, V, E> {
 
 // Whether a record of this stamp and moment, if there is one, is visible by the clock. No predicate
 // hits it, since none holds in a cache that tasks poll.
-fn is_shown<K: Eq + Hash + Exact, V: Exact, E: Exact>(
-    desk: &Desk<K, V, E>,
+fn is_shown<K: Eq + Hash + Exact, V: Exact, E: Exact, S: BuildHasher + Drop>(
+    desk: &Desk<K, V, E, S>,
     mark: Option<(u64, u64)>,
 ) -> bool
     ensures { (w : DeskPart K V E) → StandsFor K.eq desk.now w → result ≡ shows w mark }
@@ -74,8 +74,8 @@ fn is_shown<K: Eq + Hash + Exact, V: Exact, E: Exact>(
 
 // Gives the stamp of the key's record and the moment of its write, by one look, which changes
 // nothing.
-fn find_mark<K: Eq + Hash + Exact, V: Exact>(
-    table: &mut PlainTable<K, V>,
+fn find_mark<K: Eq + Hash + Exact, V: Exact, S: BuildHasher>(
+    table: &mut PlainTable<K, V, S>,
     key: &K,
 ) -> Result<Option<(u64, u64)>, AllocError>
     ensures there { IfOk result (λ mark.

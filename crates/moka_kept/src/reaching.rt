@@ -37,21 +37,29 @@ use moka_needs::Need;
 use moka_table::PlainTable;
 use moka_values::Exact;
 use std::alloc::{AllocError, Global};
-use std::hash::Hash;
+use std::hash::{BuildHasher, Hash};
 
 /// How many writes the log has room for.
 const LOG_LENGTH: usize = 384;
 
-impl<K: Eq + Hash + Exact, V: Exact, E: Exact> Reach<K, V, E> {
+impl<K: Eq + Hash + Exact, V: Exact, E: Exact, S: BuildHasher + Drop> Reach<K, V, E, S> {
     /// Nothing is stored. This call number and those before it were given out.
-    pub(crate) fn starting_after(alloc: Global, rules: Rules, last: u64) -> Result<Self, AllocError>
+    pub(crate) fn starting_after(
+        alloc: Global,
+        rules: Rules,
+        last: u64,
+        hasher: S,
+    ) -> Result<Self, AllocError>
+    where
+        S: Clone,
         ensures { IfOk result (λ reach. IsKept K.eq reach.layers) }
     {
         moka_laws::fresh_is_sound::<K, V, E>();
         moka_laws::entering_keeps_sound::<K, V, E>();
-        let desk = Desk::without_history(alloc, rules, LOG_LENGTH, last)?;
+        let of_table = hasher.clone()?;
+        let desk = Desk::without_history(alloc, rules, LOG_LENGTH, last, hasher)?;
         let layers = Layers {
-            table: PlainTable::new(alloc),
+            table: PlainTable::with_hasher(alloc, of_table),
             desk,
             call: 0,
             begun: None,
@@ -293,8 +301,8 @@ fn is_of_call<V, E>(answer: &Told<V, E>) -> bool
 // Whether the call has a number that was given out, and the desk allows its next visit, which takes
 // the answer to its own ask, if `takes`, and doesn't, if not; and an owner's end that it reads is
 // one of the kind that it waits for. False too where memory is wanting to tell.
-fn may_step<K: Eq + Hash + Exact, V: Exact, E: Exact>(
-    desk: &Desk<K, V, E>,
+fn may_step<K: Eq + Hash + Exact, V: Exact, E: Exact, S: BuildHasher + Drop>(
+    desk: &Desk<K, V, E, S>,
     flow: &Flow<K, V, E>,
     takes: bool,
 ) -> bool
@@ -322,8 +330,8 @@ fn may_step<K: Eq + Hash + Exact, V: Exact, E: Exact>(
 
 // Whether an owner's end that the flow's next visit reads, if it reads one, is one of the kind that
 // its call waits for.
-fn reads_its_kind<K: Eq + Hash + Exact, V: Drop, E: Drop>(
-    desk: &Desk<K, V, E>,
+fn reads_its_kind<K: Eq + Hash + Exact, V: Drop, E: Drop, S: BuildHasher + Drop>(
+    desk: &Desk<K, V, E, S>,
     flow: &Flow<K, V, E>,
 ) -> bool
     ensures { OnTrue result ((w : DeskPart K V E) → StandsFor K.eq desk.now w
@@ -337,8 +345,8 @@ fn reads_its_kind<K: Eq + Hash + Exact, V: Drop, E: Drop>(
 
 // Whether the desk allows the call each visit that needs this, and such a visit takes the answer to
 // the own ask, if `takes`, and doesn't, if not.
-fn may_visit<K: Eq + Hash + Exact, V: Drop, E: Drop>(
-    desk: &Desk<K, V, E>,
+fn may_visit<K: Eq + Hash + Exact, V: Drop, E: Drop, S: BuildHasher + Drop>(
+    desk: &Desk<K, V, E, S>,
     call: u64,
     need: Need<K>,
     takes: bool,

@@ -3,6 +3,8 @@ use Rattle.std.proofs.Common.{◌≡◌, ◌≢◌, ◌<◌, ◌≤◌, ◌==◌
 use Rattle.std.proofs.lemmas.Bool.Decides.{eqb_tells}
 use Rattle.std.specs.declared.cmp.PartialEq as PartialEq
 use Rattle.std.specs.declared.hash.Hash as Hash
+use Rattle.std.specs.declared.hash.Hasher as Hasher
+use Rattle.std.specs.declared.hash.BuildHasher as BuildHasher
 use Rattle.moka_hist.specs.Bound.{times_of, stayed, decided_by, most_undecided}
 use Rattle.moka_hist.specs.State.{Listed, Stay, TablePart}
 use Rattle.moka_hist.specs.Step as step
@@ -421,9 +423,9 @@ module _ {K V T C : Type 0} (t : Table.Ghosts T K V C) (eq : K → K → Bool) w
   few_given E (op.Keys p) old new call on (found.Keys keys) s =
       let few = (s.gives p keys refl refl).few in omega (arith, few)
 
-module _ {K V E T C Q : Type 0} {same : PartialEq.Ghosts K} {hash : Hash.Ghosts K} (t : Table.Ghosts T K V C) (q : Tests.Ghosts Q K V) (eq : K → K → Bool) where
+module _ {K V E T C Q S H : Type 0} {same : PartialEq.Ghosts K} {hash : Hash.Ghosts K} {build : BuildHasher.Ghosts S H} {hasher : Hasher.Ghosts H} (t : Table.Ghosts T K V C) (q : Tests.Ghosts Q K V) (eq : K → K → Bool) where
   -- an undecided step
-  pub going_serves : (o : TableOp K V) (old new : T) (call on : C) (desk : Desk K V E same hash) (tests : Q) (ids : PcgIds) (n : ℕ) → Stepped t eq o old call turn.Going new on
+  pub going_serves : (o : TableOp K V) (old new : T) (call on : C) (desk : Desk K V E S H same hash build hasher) (tests : Q) (ids : PcgIds) (n : ℕ) → Stepped t eq o old call turn.Going new on
       → t.operation_of call ≡ Some o
       → Serves eq t q (record { table = old; desk = desk; tests = tests; ids = ids; call = n; begun = Some call }) (step.On_table o) (got.Table turn.Going)
       (record { table = new; desk = desk; tests = tests; ids = ids; call = n; begun = Some on })
@@ -469,7 +471,7 @@ module _ {K V E T C Q : Type 0} {same : PartialEq.Ghosts K} {hash : Hash.Ghosts 
       )
 
   -- a step that decides
-  pub decided_serves : (o : TableOp K V) (old new : T) (call on : C) (desk : Desk K V E same hash) (tests : Q) (ids : PcgIds) (n : ℕ) (answer : TableAnswer K V)
+  pub decided_serves : (o : TableOp K V) (old new : T) (call on : C) (desk : Desk K V E S H same hash build hasher) (tests : Q) (ids : PcgIds) (n : ℕ) (answer : TableAnswer K V)
       → Stepped t eq o old call (turn.Decided answer) new on → t.operation_of call ≡ Some o
       → Serves eq t q (record { table = old; desk = desk; tests = tests; ids = ids; call = n; begun = Some call }) (step.On_table o) (got.Table (turn.Decided answer))
       (record { table = new; desk = desk; tests = tests; ids = ids; call = n; begun = None })
@@ -489,7 +491,7 @@ module _ {K V E T C Q : Type 0} {same : PartialEq.Ghosts K} {hash : Hash.Ghosts 
       )
 
   -- what is told of it
-  pub going_tells : (o : TableOp K V) (old new : T) (call on : C) (desk : Desk K V E same hash) (tests : Q) (ids : PcgIds) (n : ℕ) → Stepped t eq o old call turn.Going new on
+  pub going_tells : (o : TableOp K V) (old new : T) (call on : C) (desk : Desk K V E S H same hash build hasher) (tests : Q) (ids : PcgIds) (n : ℕ) → Stepped t eq o old call turn.Going new on
       → t.operation_of call ≡ Some o → t.left old call ≤ most_on t old
       → Accesses (account_of t (record { table = old; desk = desk; tests = tests; ids = ids; call = n; begun = Some call })) (step.On_table o) (got.Table turn.Going)
       (account_of t (record { table = new; desk = desk; tests = tests; ids = ids; call = n; begun = Some on }))
@@ -509,7 +511,7 @@ module _ {K V E T C Q : Type 0} {same : PartialEq.Ghosts K} {hash : Hash.Ghosts 
         };
       }
 
-  pub decided_tells : (o : TableOp K V) (old new : T) (call on : C) (desk : Desk K V E same hash) (tests : Q) (ids : PcgIds) (n : ℕ) (answer : TableAnswer K V)
+  pub decided_tells : (o : TableOp K V) (old new : T) (call on : C) (desk : Desk K V E S H same hash build hasher) (tests : Q) (ids : PcgIds) (n : ℕ) (answer : TableAnswer K V)
       → Stepped t eq o old call (turn.Decided answer) new on
       → Accesses (account_of t (record { table = old; desk = desk; tests = tests; ids = ids; call = n; begun = Some call })) (step.On_table o) (got.Table (turn.Decided answer))
       (account_of t (record { table = new; desk = desk; tests = tests; ids = ids; call = n; begun = None }))
@@ -529,7 +531,7 @@ module _ {K V E T C Q : Type 0} {same : PartialEq.Ghosts K} {hash : Hash.Ghosts 
       }
 
   -- a step that wanted memory leaves what the layers stand for
-  pub wanting_stays : (old new : T) (call on : C) (desk : Desk K V E same hash) (tests : Q) (ids : PcgIds) (n : ℕ) → Wanting t old call new on
+  pub wanting_stays : (old new : T) (call on : C) (desk : Desk K V E S H same hash build hasher) (tests : Q) (ids : PcgIds) (n : ℕ) → Wanting t old call new on
       → LayersStay eq t q (record { table = old; desk = desk; tests = tests; ids = ids; call = n; begun = Some call })
       (record { table = new; desk = desk; tests = tests; ids = ids; call = n; begun = Some on })
   wanting_stays old new call on desk tests ids n s = λ w h.

@@ -4,6 +4,8 @@ use Rattle.std.specs.Prelude.{Result, IfOk, not, ◌&&◌}
 use Rattle.std.proofs.lemmas.Result.{IfOk-weaker}
 use Rattle.std.specs.declared.cmp.PartialEq as PartialEq
 use Rattle.std.specs.declared.hash.Hash as Hash
+use Rattle.std.specs.declared.hash.Hasher as Hasher
+use Rattle.std.specs.declared.hash.BuildHasher as BuildHasher
 use Rattle.moka_hist.specs.Finite.{put_at}
 use Rattle.moka_hist.specs.State.{DeskPart, Handed}
 use Rattle.moka_hist.specs.Visits.{makes, claimed, claimed_alone, is_hit, is_seen, is_unlocked_for, locked_by, settlement_for, readers_without, settled_without}
@@ -58,34 +60,34 @@ module _ {K V E : Type 0} where
       (is_replaced_so ∙ ap (λ (a : ℕ → K → V → Bool). test_holds a replace key stored.value) tests)
       ∙ ap (λ b. not (test_holds w.tests replace key stored.value) && is_shown w b stored.stamp stored.modified) is_hit_so
 
-module _ {K V E : Type 0} {same : PartialEq.Ghosts K} {hash : Hash.Ghosts K} (eq : K → K → Bool) (old : Desk K V E same hash) (made known : Visit K V E) (is : made ≡ known)
+module _ {K V E S H : Type 0} {same : PartialEq.Ghosts K} {hash : Hash.Ghosts K} {build : BuildHasher.Ghosts S H} {hasher : Hasher.Ghosts H} (eq : K → K → Bool) (old : Desk K V E S H same hash build hasher) (made known : Visit K V E) (is : made ≡ known)
     (handed : Handed K V) where
-  pub by_handed : (new : Desk K V E same hash) (f : Found V E) (left : Handed K V)
+  pub by_handed : (new : Desk K V E S H same hash build hasher) (f : Found V E) (left : Handed K V)
       → VisitBy eq handed old known f new left → VisitBy eq handed old made f new left
   by_handed new f left = subst (λ v. VisitBy eq handed old v f new left) (sym is)
 
   -- the same where memory may have been wanting for it
-  pub may_be_handed : {F : Type 0} (new : Desk K V E same hash) (r : Result (Found V E) F) (left : Handed K V)
+  pub may_be_handed : {F : Type 0} (new : Desk K V E S H same hash build hasher) (r : Result (Found V E) F) (left : Handed K V)
       → IfOk r (λ f. VisitBy eq handed old known f new left) → IfOk r (λ f. VisitBy eq handed old made f new left)
   may_be_handed new r left = subst (λ v. IfOk r (λ f. VisitBy eq handed old v f new left)) (sym is)
 
   -- what was found has the visit's form
-  pub form_by : (new : Desk K V E same hash) (f : Found V E) (left : Handed K V) → VisitBy eq handed old known f new left → IsFoundBy made f
+  pub form_by : (new : Desk K V E S H same hash build hasher) (f : Found V E) (left : Handed K V) → VisitBy eq handed old known f new left → IsFoundBy made f
   form_by new f left visited = subst (λ v. IsFoundBy v f) (sym is) visited.form
 
-  pub may_have_form : {F : Type 0} (new : Desk K V E same hash) (r : Result (Found V E) F) (left : Handed K V)
+  pub may_have_form : {F : Type 0} (new : Desk K V E S H same hash build hasher) (r : Result (Found V E) F) (left : Handed K V)
       → IfOk r (λ f. VisitBy eq handed old known f new left) → IfOk r (λ f. IsFoundBy made f)
   may_have_form new r left = IfOk-weaker r (λ f. VisitBy eq handed old known f new left) (λ f. IsFoundBy made f) (λ f visited. form_by new f left visited)
 
   -- a visit for which nothing is asked or drawn
-  pub by_desk : (new : Desk K V E same hash) (f : Found V E) → registers known ≡ false
+  pub by_desk : (new : Desk K V E S H same hash build hasher) (f : Found V E) → registers known ≡ false
       → VisitIs eq old known f new → VisitBy eq handed old made f new handed
   by_desk new f draws visited = by_handed new f handed (record {
     form = visited.form;
     made = λ w h handed_so may. let m = visited.made w h may in (m.0, m.1, handed_same eq handed w known draws handed_so);
   })
 
-  pub may_make : {F : Type 0} (new : Desk K V E same hash) (r : Result (Found V E) F) → registers known ≡ false
+  pub may_make : {F : Type 0} (new : Desk K V E S H same hash build hasher) (r : Result (Found V E) F) → registers known ≡ false
       → IfOk r (λ f. VisitIs eq old known f new) → IfOk r (λ f. VisitBy eq handed old made f new handed)
   may_make new r draws =
       IfOk-weaker r (λ f. VisitIs eq old known f new) (λ f. VisitBy eq handed old made f new handed) (λ f visited. by_desk new f draws visited)

@@ -2,6 +2,8 @@
 use Rattle.std.proofs.Common.{◌≡◌, ◌≢◌, ◌≤◌, ℕ, ◌+◌, Bool, true, false, cond, Option, Some, None, IfSome, IsSome, is_some, refl, sym, ap, subst, ◌∙◌, arith}
 use Rattle.std.specs.declared.cmp.PartialEq as PartialEq
 use Rattle.std.specs.declared.hash.Hash as Hash
+use Rattle.std.specs.declared.hash.Hasher as Hasher
+use Rattle.std.specs.declared.hash.BuildHasher as BuildHasher
 use Rattle.moka_hist.specs.Bound.{stayed, times_of, most_undecided}
 use Rattle.moka_hist.specs.Conditions.{MayVisit}
 use Rattle.moka_hist.specs.Finite.{put_at}
@@ -175,22 +177,22 @@ module _ {K V E T C : Type 0} (t : Table.Ghosts T K V C) where
         (lists_back t table c w.table n o a (listings_begun w.table n o m) (was.listing a is_a));
   }
 
-module _ {K V E T C Q : Type 0} {same : PartialEq.Ghosts K} {hash : Hash.Ghosts K} (t : Table.Ghosts T K V C) (q : Tests.Ghosts Q K V) (eq : K → K → Bool) where
+module _ {K V E T C Q S H : Type 0} {same : PartialEq.Ghosts K} {hash : Hash.Ghosts K} {build : BuildHasher.Ghosts S H} {hasher : Hasher.Ghosts H} (t : Table.Ghosts T K V C) (q : Tests.Ghosts Q K V) (eq : K → K → Bool) where
   -- the calls of others are there as they were
-  pub others_begun : (layers new : Layers K V E T C Q same hash) (begun_call : Option C) (o : TableOp K V) (w after : World K V E)
+  pub others_begun : (layers new : Layers K V E T C Q S H same hash build hasher) (begun_call : Option C) (o : TableOp K V) (w after : World K V E)
       → OthersStay t (record layers { begun = begun_call }) (with_list w layers.call o) new after → OthersStay t layers w new after
   others_begun layers new begun_call o w after stay = λ m b apart was.
       stay m b apart (there t layers.table w layers.call m o b apart was)
 
   -- and where nothing was begun after all
-  pub others_still : (layers new : Layers K V E T C Q same hash) (begun_call : Option C) (o : TableOp K V) (w : World K V E)
+  pub others_still : (layers new : Layers K V E T C Q S H same hash build hasher) (begun_call : Option C) (o : TableOp K V) (w : World K V E)
       → OthersStay t (record layers { begun = begun_call }) (with_list w layers.call o) new (with_list w layers.call o) → OthersStay t layers w new w
   others_still layers new begun_call o w stay = λ m b apart was.
       back t new.table w layers.call m o b apart (stay m b apart (there t layers.table w layers.call m o b apart was))
 
   -- the layers for a call that begins an operation
   -- in the world where its list is begun, too
-  pub begins : (layers : Layers K V E T C Q same hash) (c : C) (o : TableOp K V) (w : World K V E) → layers.begun ≡ None → t.operation_of c ≡ Some o → t.fits layers.table c
+  pub begins : (layers : Layers K V E T C Q S H same hash build hasher) (c : C) (o : TableOp K V) (w : World K V E) → layers.begun ≡ None → t.operation_of c ≡ Some o → t.fits layers.table c
       → t.left layers.table c ≤ most_on t layers.table
       → ((p : ℕ) → o ≡ op.Keys p → (q : K) → t.listed layers.table c q → ⊥)
       → ((p : ℕ) → o ≡ op.Keys p → (q : K) → t.part_of layers.table q ≡ p → t.covers layers.table c q)
@@ -220,7 +222,7 @@ module _ {K V E T C Q : Type 0} {same : PartialEq.Ghosts K} {hash : Hash.Ghosts 
       }
 
   -- the layers where the operation ends that was begun without memory: none is begun, as before
-  pub begins_none : (old new : Layers K V E T C Q same hash) (w : World K V E) → old.begun ≡ None → new.call ≡ old.call → most_on t new.table ≡ most_on t old.table
+  pub begins_none : (old new : Layers K V E T C Q S H same hash build hasher) (w : World K V E) → old.begun ≡ None → new.call ≡ old.call → most_on t new.table ≡ most_on t old.table
       → (o : TableOp K V) → GroundIs eq t q old w → GroundIs eq t q new (with_list w old.call o) → GroundIs eq t q (record new { begun = None }) w
   begins_none old new w none call most o was h =
       let patient : times_of w.stay old.call + most_on t old.table ≤ most_undecided w.table =
@@ -243,7 +245,7 @@ module _ {K V E T C Q : Type 0} {same : PartialEq.Ghosts K} {hash : Hash.Ghosts 
         given = h.given;
       }
 
-  pub begin_tells : (layers : Layers K V E T C Q same hash) (c : C) (o : TableOp K V) (given : Got K V E) (new : Layers K V E T C Q same hash) → layers.begun ≡ None
+  pub begin_tells : (layers : Layers K V E T C Q S H same hash build hasher) (c : C) (o : TableOp K V) (given : Got K V E) (new : Layers K V E T C Q S H same hash build hasher) → layers.begun ≡ None
       → t.left layers.table c ≤ most_on t layers.table
       → Accesses (account_of t (record layers { begun = Some c })) (step.On_table o) given (account_of t new)
       → Accesses (account_of t layers) (step.On_table o) given (account_of t new)
@@ -264,11 +266,11 @@ module _ {K V E T C Q : Type 0} {same : PartialEq.Ghosts K} {hash : Hash.Ghosts 
       }
 
   -- the layers of a call that goes on with its operation
-  pub with_begun : (layers : Layers K V E T C Q same hash) (c : C) → layers.begun ≡ Some c → record layers { begun = Some c } ≡ layers
+  pub with_begun : (layers : Layers K V E T C Q S H same hash build hasher) (c : C) → layers.begun ≡ Some c → record layers { begun = Some c } ≡ layers
   with_begun layers c e = ap (λ b. record layers { begun = b }) (sym e)
 
   -- a visit, where nothing is begun
-  pub visit_serves : (table : T) (tests : Q) (ids left : PcgIds) (old new : Desk K V E same hash) (n : ℕ) (begun : Option C) (v : Visit K V E) (f : Found V E) → begun ≡ None
+  pub visit_serves : (table : T) (tests : Q) (ids left : PcgIds) (old new : Desk K V E S H same hash build hasher) (n : ℕ) (begun : Option C) (v : Visit K V E) (f : Found V E) → begun ≡ None
       → VisitBy eq (handed_by q tests (ids_of ids)) old v f new (handed_by q tests (ids_of left))
       → Serves eq t q (record { table = table; desk = old; tests = tests; ids = ids; call = n; begun = begun }) (step.On_desk v) (got.Desk f)
       (record { table = table; desk = new; tests = tests; ids = left; call = n; begun = begun })
@@ -301,7 +303,7 @@ module _ {K V E T C Q : Type 0} {same : PartialEq.Ghosts K} {hash : Hash.Ghosts 
           )
 
   -- ids that are to come alike leave the layers what they stood for
-  pub ids_stay : (table : T) (tests : Q) (ids left : PcgIds) (old new : Desk K V E same hash) (n : ℕ) (begun : Option C) → ids_of left ≡ ids_of ids → DeskStays eq old new
+  pub ids_stay : (table : T) (tests : Q) (ids left : PcgIds) (old new : Desk K V E S H same hash build hasher) (n : ℕ) (begun : Option C) → ids_of left ≡ ids_of ids → DeskStays eq old new
       → LayersStay eq t q (record { table = table; desk = old; tests = tests; ids = ids; call = n; begun = begun })
       (record { table = table; desk = new; tests = tests; ids = left; call = n; begun = begun })
   ids_stay table tests ids left old new n begun alike stays = λ w h. (

@@ -4,6 +4,8 @@ use Rattle.std.specs.Option.{option_and_then}
 use Rattle.std.proofs.Common.{ap, refl, subst, sym}
 use Rattle.std.specs.declared.cmp.PartialEq as PartialEq
 use Rattle.std.specs.declared.hash.Hash as Hash
+use Rattle.std.specs.declared.hash.Hasher as Hasher
+use Rattle.std.specs.declared.hash.BuildHasher as BuildHasher
 use Rattle.moka_hist.specs.State.{World}
 use Rattle.moka_hist.specs.declared.record_tests.Tests as Tests
 use Rattle.moka_bound.specs.Falling.{Counts}
@@ -22,9 +24,10 @@ ended_alike joined (Some owner) settled settled' e same =
     (ap is_some (same owner))
 
 -- it is so in each world that they stand for
-pub counted : {K V E T C Q : Type 0} {same : PartialEq.Ghosts K} {hash : Hash.Ghosts K}
+pub counted : {K V E T C Q S H : Type 0} {same : PartialEq.Ghosts K} {hash : Hash.Ghosts K}
+    {build : BuildHasher.Ghosts S H} {hasher : Hasher.Ghosts H}
     (t : Table.Ghosts T K V C) (q : Tests.Ghosts Q K V) (eq : K → K → Bool)
-    (layers : Layers K V E T C Q same hash)
+    (layers : Layers K V E T C Q S H same hash build hasher)
     (w : World K V E) → GroundIs eq t q layers w
     → Counts layers.call w (work_of t layers)
 counted t q eq layers w h =

@@ -4,6 +4,8 @@ use Rattle.std.specs.Prelude.{IsSome}
 use Rattle.std.specs.Option.{option_and_then, option_map_or}
 use Rattle.std.specs.declared.cmp.PartialEq as PartialEq
 use Rattle.std.specs.declared.hash.Hash as Hash
+use Rattle.std.specs.declared.hash.Hasher as Hasher
+use Rattle.std.specs.declared.hash.BuildHasher as BuildHasher
 use Rattle.moka_hist.specs.Bound.{times_of, most_undecided}
 use Rattle.moka_hist.specs.State.{Stay, TablePart, World}
 use Rattle.moka_hist.specs.Step.{Access, On_table, On_desk, Gets, May}
@@ -65,9 +67,10 @@ pub record BegunIs {K V T C : Type 0} (t : Table.Ghosts T K V C) (table : T) (ca
 
 -- Table and desk are those of the world, and the layers were handed what its desk was. Who made its
 -- last step on the table had a number given out.
-pub record WorldIs {K V E T C Q : Type 0} {same : PartialEq.Ghosts K} {hash : Hash.Ghosts K}
+pub record WorldIs {K V E T C Q S H : Type 0} {same : PartialEq.Ghosts K} {hash : Hash.Ghosts K}
+    {build : BuildHasher.Ghosts S H} {hasher : Hasher.Ghosts H}
     (eq : K → K → Bool) (t : Table.Ghosts T K V C) (q : Tests.Ghosts Q K V)
-    (layers : Layers K V E T C Q same hash)
+    (layers : Layers K V E T C Q S H same hash build hasher)
     (w : World K V E) : Type 0 where
   pub table : TableIs t layers.table w.table
   pub desk : desk.StandsFor eq layers.desk w.desk
@@ -75,17 +78,19 @@ pub record WorldIs {K V E T C Q : Type 0} {same : PartialEq.Ghosts K} {hash : Ha
   pub stay : w.stay.call ≤ w.desk.last
 
 -- They are so for the call that reaches them, with what it has begun.
-pub record GroundIs {K V E T C Q : Type 0} {same : PartialEq.Ghosts K} {hash : Hash.Ghosts K}
+pub record GroundIs {K V E T C Q S H : Type 0} {same : PartialEq.Ghosts K} {hash : Hash.Ghosts K}
+    {build : BuildHasher.Ghosts S H} {hasher : Hasher.Ghosts H}
     (eq : K → K → Bool) (t : Table.Ghosts T K V C) (q : Tests.Ghosts Q K V)
-    (layers : Layers K V E T C Q same hash)
+    (layers : Layers K V E T C Q S H same hash build hasher)
     (w : World K V E) : Type 0 where
   pub world : WorldIs eq t q layers w
   pub begun : BegunIs t layers.table layers.call layers.begun w.table w.stay
   pub given : layers.call ≤ w.desk.last
 
-module _ {K V E T C Q : Type 0} {same : PartialEq.Ghosts K} {hash : Hash.Ghosts K} where
+module _ {K V E T C Q S H : Type 0} {same : PartialEq.Ghosts K} {hash : Hash.Ghosts K}
+    {build : BuildHasher.Ghosts S H} {hasher : Hasher.Ghosts H} where
   -- what is before the call there
-  abbrev pub work_of : Table.Ghosts T K V C → Layers K V E T C Q same hash → Work
+  abbrev pub work_of : Table.Ghosts T K V C → Layers K V E T C Q S H same hash build hasher → Work
   work_of t layers = record {
     owed = owed_in layers.desk;
     logged = logged_in layers.desk;
@@ -97,7 +102,8 @@ module _ {K V E T C Q : Type 0} {same : PartialEq.Ghosts K} {hash : Hash.Ghosts 
   }
 
   -- what the layers tell of themselves; the accesses that were made they don't tell
-  abbrev pub account_of : Table.Ghosts T K V C → Layers K V E T C Q same hash → Account K V E
+  abbrev pub account_of : Table.Ghosts T K V C → Layers K V E T C Q S H same hash build hasher →
+      Account K V E
   account_of t layers = record {
     call = layers.call;
     begun = operation_in t layers.begun;
@@ -107,13 +113,14 @@ module _ {K V E T C Q : Type 0} {same : PartialEq.Ghosts K} {hash : Hash.Ghosts 
 
   -- some world that they stand for allows what is wanted
   abbrev pub Allows : (K → K → Bool) → Table.Ghosts T K V C → Tests.Ghosts Q K V
-      → Layers K V E T C Q same hash → Want K V E → Type 0
+      → Layers K V E T C Q S H same hash build hasher → Want K V E → Type 0
   Allows eq t q layers wish = (w : World K V E) × GroundIs eq t q layers w
       × MayWant w (operation_in t layers.begun) wish
 
   -- what other calls have begun there they may still go on with
-  abbrev pub OthersStay : Table.Ghosts T K V C → Layers K V E T C Q same hash → World K V E
-      → Layers K V E T C Q same hash → World K V E → Type 0
+  abbrev pub OthersStay : Table.Ghosts T K V C → Layers K V E T C Q S H same hash build hasher →
+      World K V E
+      → Layers K V E T C Q S H same hash build hasher → World K V E → Type 0
   OthersStay t old w new after =
       (n : ℕ) (begun : Option C) → old.call ≢ n → BegunIs t old.table n begun w.table w.stay
       → BegunIs t new.table n begun after.table after.stay
@@ -121,7 +128,8 @@ module _ {K V E T C Q : Type 0} {same : PartialEq.Ghosts K} {hash : Hash.Ghosts 
   -- the access gave this, and made its change to each world that the layers stood for and that
   -- allows it
   abbrev pub Serves : (K → K → Bool) → Table.Ghosts T K V C → Tests.Ghosts Q K V
-      → Layers K V E T C Q same hash → Access K V E → Got K V E → Layers K V E T C Q same hash
+      → Layers K V E T C Q S H same hash build hasher → Access K V E → Got K V E →
+      Layers K V E T C Q S H same hash build hasher
       → Type 0
   Serves eq t q old access given new =
       (w : World K V E) → GroundIs eq t q old w → May w access
@@ -129,18 +137,21 @@ module _ {K V E T C Q : Type 0} {same : PartialEq.Ghosts K} {hash : Hash.Ghosts 
       × OthersStay t old w new after
 
   -- the access decided, where the table always does, and nothing is begun then
-  abbrev pub Decides : Table.Ghosts T K V C → Got K V E → Layers K V E T C Q same hash → Type 0
+  abbrev pub Decides : Table.Ghosts T K V C → Got K V E →
+      Layers K V E T C Q S H same hash build hasher → Type 0
   Decides t given new =
       AlwaysDecides t → (given ≢ got.Table table.Going) × (new.begun ≡ None)
 
   -- the calls that are handed out once the access was made: those of its visit
-  abbrev pub handed_for : Layers K V E T C Q same hash → Access K V E → Option (List ℕ)
+  abbrev pub handed_for : Layers K V E T C Q S H same hash build hasher → Access K V E →
+      Option (List ℕ)
       → Option (List ℕ)
   handed_for layers (On_table operation) before = before
   handed_for layers (On_desk made) before = handed_out layers.desk made before
 
   -- the layers stand for what they stood for
   abbrev pub LayersStay : (K → K → Bool) → Table.Ghosts T K V C → Tests.Ghosts Q K V
-      → Layers K V E T C Q same hash → Layers K V E T C Q same hash → Type 0
+      → Layers K V E T C Q S H same hash build hasher →
+      Layers K V E T C Q S H same hash build hasher → Type 0
   LayersStay eq t q old new =
       (w : World K V E) → GroundIs eq t q old w → GroundIs eq t q new w × OthersStay t old w new w

@@ -8,19 +8,20 @@ use moka_desk::Desk;
 use moka_hist::{Got, IdList, TableOp, TableTurn, Tests, Visit, Want};
 use moka_ids::PcgIds;
 use moka_init::{Alone, Ground};
+use moka_room::FixedSeed;
 use moka_sync::CallList;
 use moka_table::Table;
 use moka_values::Exact;
 use std::alloc::AllocError;
-use std::hash::Hash;
+use std::hash::{BuildHasher, Hash};
 
 /// The table, the desk, and the call that reaches them, with the table operation that it has begun;
 /// the tests and predicates by which calls judge what they find; and the ids of predicates that are
-/// registered.
+/// registered. Its desk hashes keys by S.
 #[derive(Drop)]
-pub struct Layers<K: Eq + Hash, V, E, T, C, Q> {
+pub struct Layers<K: Eq + Hash, V, E, T, C, Q, S: BuildHasher = FixedSeed> {
     pub table: T,
-    pub desk: Desk<K, V, E>,
+    pub desk: Desk<K, V, E, S>,
     pub call: u64,
     pub begun: Option<C>,
     pub tests: Q,
@@ -34,7 +35,8 @@ impl<
     C: Drop,
     T: Table<K, V, Call = C> + Drop,
     Q: Tests<K, V> + Drop,
-> Layers<K, V, E, T, C, Q> {
+    S: BuildHasher + Drop,
+> Layers<K, V, E, T, C, Q, S> {
     ghost use Rattle.moka_desk.specs.History.{KeepsAsBefore};
     ghost use Rattle.moka_hist.specs.Conditions.{MayVisit};
     ghost use Rattle.moka_hist.specs.State.{World};
@@ -258,7 +260,8 @@ impl<
     C: Drop,
     T: Table<K, V, Call = C> + Drop,
     Q: Tests<K, V> + Drop,
-> Ground<K, V, E> for Layers<K, V, E, T, C, Q> {
+    S: BuildHasher + Drop,
+> Ground<K, V, E> for Layers<K, V, E, T, C, Q, S> {
     ghost use Rattle.moka_hist.specs.State.{World};
     ghost use Rattle.moka_init.specs.Grounds.{Accesses, Gives, Lacks, NeedsMemory, OfWanted};
     ghost use Rattle.moka_layers.specs.Layers.{GroundIs, Allows, account_of};
@@ -335,4 +338,5 @@ impl<
     C: Drop,
     T: Table<K, V, Call = C> + Drop,
     Q: Tests<K, V> + Drop,
-> Alone<K, V, E> for Layers<K, V, E, T, C, Q> {}
+    S: BuildHasher + Drop,
+> Alone<K, V, E> for Layers<K, V, E, T, C, Q, S> {}

@@ -17,12 +17,18 @@ use moka_ids::PcgIds;
 use moka_sync::CallList;
 use moka_values::Exact;
 use std::alloc::AllocError;
-use std::hash::Hash;
+use std::hash::{BuildHasher, Hash};
 
 /// Makes the visit. After want of memory the desk stands for what it stood for. The calls that it
 /// hands out, where it is one that does, stand in `woken` then.
-pub(crate) fn make_visit<K: Eq + Hash + Exact, V: Exact, E: Exact, Q: Tests<K, V>>(
-    desk: &mut Desk<K, V, E>,
+pub(crate) fn make_visit<
+    K: Eq + Hash + Exact,
+    V: Exact,
+    E: Exact,
+    Q: Tests<K, V>,
+    S: BuildHasher + Drop,
+>(
+    desk: &mut Desk<K, V, E, S>,
     tests: &Q,
     ids: &mut PcgIds,
     visit: Visit<K, V, E>,
@@ -81,8 +87,8 @@ pub(crate) fn make_visit<K: Eq + Hash + Exact, V: Exact, E: Exact, Q: Tests<K, V
 }
 
 #[inline(always)]
-fn stamp_moment<K: Eq + Hash + Exact, V: Exact, E: Exact>(
-    desk: &mut Desk<K, V, E>,
+fn stamp_moment<K: Eq + Hash + Exact, V: Exact, E: Exact, S: BuildHasher + Drop>(
+    desk: &mut Desk<K, V, E, S>,
     call: u64,
 ) -> Result<Found<V, E>, AllocError>
     requires { Can K.eq desk.old (Visit.StampMoment call) }
@@ -97,8 +103,8 @@ fn stamp_moment<K: Eq + Hash + Exact, V: Exact, E: Exact>(
 
 // Judges the record by the tests and the predicates, which the desk does not have.
 #[inline(always)]
-fn judge<K: Eq + Hash + Exact, V: Exact, E: Exact, Q: Tests<K, V>>(
-    desk: &mut Desk<K, V, E>,
+fn judge<K: Eq + Hash + Exact, V: Exact, E: Exact, Q: Tests<K, V>, S: BuildHasher + Drop>(
+    desk: &mut Desk<K, V, E, S>,
     tests: &Q,
     replace: Option<u64>,
     key: K,
@@ -130,8 +136,8 @@ fn is_replaced<K, V, Q: Tests<K, V>>(tests: &Q, replace: Option<u64>, key: &K, v
 
 // Judges a record that a walk found.
 #[inline(always)]
-fn scan<K: Eq + Hash + Exact, V: Exact, E: Exact, Q: Tests<K, V>>(
-    desk: &mut Desk<K, V, E>,
+fn scan<K: Eq + Hash + Exact, V: Exact, E: Exact, Q: Tests<K, V>, S: BuildHasher + Drop>(
+    desk: &mut Desk<K, V, E, S>,
     tests: &Q,
     key: K,
     stored: Stored<V>,
@@ -145,8 +151,8 @@ fn scan<K: Eq + Hash + Exact, V: Exact, E: Exact, Q: Tests<K, V>>(
 }
 
 #[inline(always)]
-fn holds<K: Eq + Hash + Exact, V: Exact, E: Exact, Q: Tests<K, V>>(
-    desk: &mut Desk<K, V, E>,
+fn holds<K: Eq + Hash + Exact, V: Exact, E: Exact, Q: Tests<K, V>, S: BuildHasher + Drop>(
+    desk: &mut Desk<K, V, E, S>,
     tests: &Q,
     key: K,
     stored: Stored<V>,
@@ -163,8 +169,8 @@ fn holds<K: Eq + Hash + Exact, V: Exact, E: Exact, Q: Tests<K, V>>(
 
 // Registers the predicate of this number.
 #[inline(always)]
-fn register<K: Eq + Hash + Exact, V: Exact, E: Exact>(
-    desk: &mut Desk<K, V, E>,
+fn register<K: Eq + Hash + Exact, V: Exact, E: Exact, S: BuildHasher + Drop>(
+    desk: &mut Desk<K, V, E, S>,
     ids: &mut PcgIds,
     test: u64,
 ) -> Result<Found<V, E>, AllocError>
@@ -184,8 +190,8 @@ fn register<K: Eq + Hash + Exact, V: Exact, E: Exact>(
 
 // Chooses the predicates that may leave.
 #[inline(always)]
-fn candidates<K: Eq + Hash + Exact, V: Exact, E: Exact>(
-    desk: &mut Desk<K, V, E>,
+fn candidates<K: Eq + Hash + Exact, V: Exact, E: Exact, S: BuildHasher + Drop>(
+    desk: &mut Desk<K, V, E, S>,
 ) -> Result<Found<V, E>, AllocError>
     ensures ok { IfOk result (λ found. VisitIs K.eq desk.old Visit.Candidates found desk.new) }
     ensures err { OnErr result (DeskStays K.eq desk.old desk.new) }
@@ -197,8 +203,8 @@ fn candidates<K: Eq + Hash + Exact, V: Exact, E: Exact>(
 
 // Looks which of these predicates hide a record that maintenance found.
 #[inline(always)]
-fn strike<K: Eq + Hash + Exact, V: Exact, E: Exact, Q: Tests<K, V>>(
-    desk: &mut Desk<K, V, E>,
+fn strike<K: Eq + Hash + Exact, V: Exact, E: Exact, Q: Tests<K, V>, S: BuildHasher + Drop>(
+    desk: &mut Desk<K, V, E, S>,
     tests: &Q,
     named: IdList,
     key: K,
@@ -214,8 +220,8 @@ fn strike<K: Eq + Hash + Exact, V: Exact, E: Exact, Q: Tests<K, V>>(
 
 // Lets these predicates leave.
 #[inline(always)]
-pub(crate) fn retire<K: Eq + Hash + Exact, V: Exact, E: Exact>(
-    desk: &mut Desk<K, V, E>,
+pub(crate) fn retire<K: Eq + Hash + Exact, V: Exact, E: Exact, S: BuildHasher + Drop>(
+    desk: &mut Desk<K, V, E, S>,
     named: &IdList,
 ) -> Found<V, E>
     ensures visit { VisitIs K.eq desk.old (Visit.Retire named.now) result desk.new }
@@ -240,8 +246,8 @@ fn unregistered<V, E>(why: PredicateError) -> Result<Found<V, E>, AllocError>
 }
 
 #[inline(always)]
-fn wait_or_own<K: Eq + Hash + Exact, V: Exact, E: Exact>(
-    desk: &mut Desk<K, V, E>,
+fn wait_or_own<K: Eq + Hash + Exact, V: Exact, E: Exact, S: BuildHasher + Drop>(
+    desk: &mut Desk<K, V, E, S>,
     call: u64,
     load: Load<K>,
 ) -> Result<Found<V, E>, AllocError>
@@ -256,8 +262,8 @@ fn wait_or_own<K: Eq + Hash + Exact, V: Exact, E: Exact>(
 }
 
 #[inline(always)]
-fn own_alone<K: Eq + Hash + Exact, V: Exact, E: Exact>(
-    desk: &mut Desk<K, V, E>,
+fn own_alone<K: Eq + Hash + Exact, V: Exact, E: Exact, S: BuildHasher + Drop>(
+    desk: &mut Desk<K, V, E, S>,
     call: u64,
     key: K,
 ) -> Result<Found<V, E>, AllocError>
@@ -272,8 +278,8 @@ fn own_alone<K: Eq + Hash + Exact, V: Exact, E: Exact>(
 }
 
 #[inline(always)]
-fn read_settled<K: Eq + Hash + Exact, V: Exact, E: Exact>(
-    desk: &mut Desk<K, V, E>,
+fn read_settled<K: Eq + Hash + Exact, V: Exact, E: Exact, S: BuildHasher + Drop>(
+    desk: &mut Desk<K, V, E, S>,
     call: u64,
 ) -> Result<Found<V, E>, AllocError>
     requires can { Can K.eq desk.old (Visit.ReadSettled call) }
@@ -287,8 +293,8 @@ fn read_settled<K: Eq + Hash + Exact, V: Exact, E: Exact>(
 }
 
 #[inline(always)]
-fn open_ask<K: Eq + Hash + Exact, V: Exact, E: Exact>(
-    desk: &mut Desk<K, V, E>,
+fn open_ask<K: Eq + Hash + Exact, V: Exact, E: Exact, S: BuildHasher + Drop>(
+    desk: &mut Desk<K, V, E, S>,
     call: u64,
     takes: Takes,
 ) -> Result<Found<V, E>, AllocError>
@@ -303,8 +309,8 @@ fn open_ask<K: Eq + Hash + Exact, V: Exact, E: Exact>(
 }
 
 #[inline(always)]
-fn settle<K: Eq + Hash + Exact, V: Exact, E: Exact>(
-    desk: &mut Desk<K, V, E>,
+fn settle<K: Eq + Hash + Exact, V: Exact, E: Exact, S: BuildHasher + Drop>(
+    desk: &mut Desk<K, V, E, S>,
     call: u64,
     with: Settled<V, E>,
     woken: &mut Option<CallList>,
@@ -319,7 +325,9 @@ fn settle<K: Eq + Hash + Exact, V: Exact, E: Exact>(
 }
 
 #[inline(always)]
-fn invalidate_all<K: Eq + Hash + Exact, V: Exact, E: Exact>(desk: &mut Desk<K, V, E>) -> Found<V, E>
+fn invalidate_all<K: Eq + Hash + Exact, V: Exact, E: Exact, S: BuildHasher + Drop>(
+    desk: &mut Desk<K, V, E, S>,
+) -> Found<V, E>
     ensures visit { VisitIs K.eq desk.old Visit.InvalidateAll result desk.new }
     ensures kept { KeepsAsBefore desk.old desk.new }
 {
@@ -328,8 +336,8 @@ fn invalidate_all<K: Eq + Hash + Exact, V: Exact, E: Exact>(desk: &mut Desk<K, V
 }
 
 #[inline(always)]
-fn end_turn<K: Eq + Hash + Exact, V: Exact, E: Exact>(
-    desk: &mut Desk<K, V, E>,
+fn end_turn<K: Eq + Hash + Exact, V: Exact, E: Exact, S: BuildHasher + Drop>(
+    desk: &mut Desk<K, V, E, S>,
     call: u64,
     woken: &mut Option<CallList>,
 ) -> Found<V, E>
@@ -343,8 +351,8 @@ fn end_turn<K: Eq + Hash + Exact, V: Exact, E: Exact>(
 }
 
 #[inline(always)]
-fn notice_ended<K: Eq + Hash + Exact, V: Exact, E: Exact>(
-    desk: &mut Desk<K, V, E>,
+fn notice_ended<K: Eq + Hash + Exact, V: Exact, E: Exact, S: BuildHasher + Drop>(
+    desk: &mut Desk<K, V, E, S>,
     call: u64,
     notice: u64,
 ) -> Result<Found<V, E>, AllocError>
@@ -359,8 +367,8 @@ fn notice_ended<K: Eq + Hash + Exact, V: Exact, E: Exact>(
 }
 
 #[inline(always)]
-fn lock_key<K: Eq + Hash + Exact, V: Exact, E: Exact>(
-    desk: &mut Desk<K, V, E>,
+fn lock_key<K: Eq + Hash + Exact, V: Exact, E: Exact, S: BuildHasher + Drop>(
+    desk: &mut Desk<K, V, E, S>,
     call: u64,
     key: K,
 ) -> Result<Found<V, E>, AllocError>
@@ -375,8 +383,8 @@ fn lock_key<K: Eq + Hash + Exact, V: Exact, E: Exact>(
 }
 
 #[inline(always)]
-fn unlock_key<K: Eq + Hash + Exact, V: Exact, E: Exact>(
-    desk: &mut Desk<K, V, E>,
+fn unlock_key<K: Eq + Hash + Exact, V: Exact, E: Exact, S: BuildHasher + Drop>(
+    desk: &mut Desk<K, V, E, S>,
     call: u64,
     wrote: bool,
     woken: &mut Option<CallList>,
@@ -391,8 +399,8 @@ fn unlock_key<K: Eq + Hash + Exact, V: Exact, E: Exact>(
 }
 
 #[inline(always)]
-fn open_notice<K: Eq + Hash + Exact, V: Exact, E: Exact>(
-    desk: &mut Desk<K, V, E>,
+fn open_notice<K: Eq + Hash + Exact, V: Exact, E: Exact, S: BuildHasher + Drop>(
+    desk: &mut Desk<K, V, E, S>,
     call: u64,
     key: K,
     value: V,
@@ -413,8 +421,8 @@ fn open_notice<K: Eq + Hash + Exact, V: Exact, E: Exact>(
 }
 
 #[inline(always)]
-fn take_turn<K: Eq + Hash + Exact, V: Exact, E: Exact>(
-    desk: &mut Desk<K, V, E>,
+fn take_turn<K: Eq + Hash + Exact, V: Exact, E: Exact, S: BuildHasher + Drop>(
+    desk: &mut Desk<K, V, E, S>,
     call: u64,
 ) -> Result<Found<V, E>, AllocError>
     requires { Can K.eq desk.old (Visit.TakeTurn call) }

@@ -2,9 +2,9 @@
 
 use crate::keeping::{Board, Opens};
 use futures::executor::block_on;
-use moka_cache::{Listener, Polled, State};
+use moka_cache::{Polled, State};
 use moka_cache_runs::asks::{Asks, Told};
-use moka_cache_runs::caches::Heard;
+use moka_cache_runs::caches::{Heard, HearsAny};
 use moka_cache_runs::calls::Call::Own;
 use moka_cache_runs::calls::Kind::OfKey;
 use moka_cache_runs::calls::OfKey::Insert;
@@ -30,7 +30,7 @@ impl<R: Wait + RandomSource + AllocGlobal> Task<R> for Opening<'_> {
 }
 
 /// Runs the call to its end, lets the listener go after each poll, and tells what it replied.
-pub(crate) fn run_opening<R: Wait + RandomSource + AllocGlobal, L: Listener<u32, u32>>(
+pub(crate) fn run_opening<R: Wait + RandomSource + AllocGlobal, L: HearsAny>(
     rt: &R,
     cache: &Heard<L>,
     call: &Call,
@@ -43,7 +43,7 @@ pub(crate) fn run_opening<R: Wait + RandomSource + AllocGlobal, L: Listener<u32,
 }
 
 /// Polls the call once, drops it where that is pending, and tells what it replied.
-pub(crate) fn once<R: Wait + RandomSource + AllocGlobal, L: Listener<u32, u32>>(
+pub(crate) fn once<R: Wait + RandomSource + AllocGlobal, L: HearsAny>(
     rt: &R,
     cache: &Heard<L>,
     call: &Call,
@@ -56,7 +56,7 @@ pub(crate) fn once<R: Wait + RandomSource + AllocGlobal, L: Listener<u32, u32>>(
 
 /// Polls an insert of the value under key 1 once, drops it where that is pending, and tells what it
 /// replied.
-pub(crate) fn insert_once<R: Wait + RandomSource + AllocGlobal, L: Listener<u32, u32>>(
+pub(crate) fn insert_once<R: Wait + RandomSource + AllocGlobal, L: HearsAny>(
     rt: &R,
     cache: &Heard<L>,
     value: u32,

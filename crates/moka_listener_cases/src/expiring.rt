@@ -33,7 +33,7 @@ const fn told(reply: Reply) -> Told {
 }
 
 /// What a cache is built by.
-type Builder = CacheBuilder<u32, u32, u32, KeepListener>;
+type Builder = CacheBuilder<u32, u32, u32>;
 
 /// Builds the cache, with a listener of this board that ends each notice at once.
 fn heard(

@@ -3,7 +3,7 @@
 use futures::Future;
 use futures::task::{Context, Poll};
 use moka_cache::{BuildError, CacheBuilder, Listener, ListenerEnd};
-use moka_cache_runs::caches::Heard;
+use moka_cache_runs::caches::{Heard, HearsAny};
 use moka_hist::Cause;
 use std::alloc::{AllocError, Global};
 use std::cell::Cell;
@@ -101,6 +101,10 @@ impl Listener<u32, u32> for KeepListener {
         }
         cx.yield_now()
     }
+}
+
+impl HearsAny for KeepListener {
+    ghost hears_any = { λ listener key value. tt };
 }
 
 /// A cache of capacity 100 whose listener is of this board.

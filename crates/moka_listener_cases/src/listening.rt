@@ -5,12 +5,9 @@ use crate::keeping::{Board, cache_of, left};
 use futures::executor::block_on;
 use futures::future::join;
 use futures::task::{Context, Poll};
-use moka_cache::{
-    Cache, CacheBuilder, Listener, ListenerEnd, NoListener, PollError, Polled, RetriesExhausted,
-    State,
-};
+use moka_cache::{CacheBuilder, Listener, ListenerEnd, PollError, Polled, RetriesExhausted, State};
 use moka_cache_runs::asks::Asks;
-use moka_cache_runs::caches::Heard;
+use moka_cache_runs::caches::{Heard, HearsAny};
 use moka_cache_runs::calls::Call::{Lent, Own};
 use moka_cache_runs::calls::Caller;
 use moka_cache_runs::calls::Kind::OfKey;
@@ -18,7 +15,6 @@ use moka_cache_runs::calls::OfKey::{Get, Insert, Remove};
 use moka_cache_runs::inits::{After, DropsAfter};
 use moka_cache_runs::numbers::numbers;
 use moka_cache_runs::replies::Reply;
-use moka_cache_runs::tasks::{Once, Task};
 use moka_hist::Cause;
 use std::alloc::{AllocError, AllocGlobal, Global};
 use std::random::RandomSource;
@@ -69,6 +65,10 @@ impl Listener<u32, u32> for PendsOnce {
     }
 }
 
+impl HearsAny for PendsOnce {
+    ghost hears_any = { λ listener key value. tt };
+}
+
 // Hears one record, and no further one.
 #[derive(Drop)]
 struct HearsOne {
@@ -83,6 +83,10 @@ impl Listener<u32, u32> for HearsOne {
     fn poll(&self, _notice: u64, _cx: &mut Context<'_>) -> Poll<ListenerEnd> {
         Poll::Ready(ListenerEnd::Off)
     }
+}
+
+impl HearsAny for HearsOne {
+    ghost hears_any = { λ listener key value. tt };
 }
 
 // What two calls answered, one after the other.
@@ -224,17 +228,5 @@ fn a_listener_that_is_off_is_not_started_again(rt: HostRuntime) -> Result<(), Fa
         "the listener that was set before"
     );
     assert_eq!(rt; second.load(Ordering::SeqCst), 1);
-    Ok(())
-}
-
-#[test]
-fn a_hasher_is_kept(rt: HostRuntime) -> Result<(), Fail> {
-    let cache: Cache<u32, u32, u32, NoListener, u8> = CacheBuilder::new(100).build_with_hasher(
-        rt.alloc(),
-        3,
-    )?;
-    let (inserted, _) = Once.run(&rt, numbers(cache.insert(1, 5)))?;
-    assert_eq!(rt; inserted, Reply::Done);
-    assert!(rt; cache.contains_key(&rt, &1, 0)?);
     Ok(())
 }

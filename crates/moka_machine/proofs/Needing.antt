@@ -13,11 +13,11 @@ use Rattle.moka_hist.specs.declared.visits.Visit.{Visit}
 use Rattle.moka_hist.specs.declared.visits.Visit.TheVariants as visit
 use Rattle.moka_desk.specs.Notices.{if_running}
 use Rattle.moka_desk.specs.StandsFor as desk
-use Rattle.moka_desk.specs.declared.state.Desk.{Desk}
 use Rattle.moka_init.specs.declared.flow.Flow.{Flow}
 use Rattle.moka_init.specs.Grounds.{NeedsMemory, TakesCopies, VisitNeedsMemory, access_at}
 use Rattle.moka_init.specs.Steps.{MayLack}
 use Rattle.moka_hist.specs.declared.record_tests.Tests as Tests
+use Rattle.moka_machine.specs.TheTable.{TheDesk}
 use Rattle.moka_machine.specs.Machine.{MachineIs}
 use Rattle.moka_machine.specs.WantOfMemory.{CallNeedsMemory}
 use Rattle.moka_machine.specs.declared.machine.Machine.{Machine}
@@ -56,17 +56,17 @@ module _ {K V E : Type 0} where
 
 module _ {K V E : Type 0} {same : PartialEq.Ghosts K} {hash : Hash.Ghosts K} (eq : K → K → Bool) where
   -- whichever state the desk stands for
-  same_running : (d : Desk K V E same hash) (w u : DeskPart K V E) (number : ℕ) → desk.StandsFor eq d w → desk.StandsFor eq d u → is_running w number ≡ is_running u number
+  same_running : (d : TheDesk K V E same hash) (w u : DeskPart K V E) (number : ℕ) → desk.StandsFor eq d w → desk.StandsFor eq d u → is_running w number ≡ is_running u number
   same_running d w u number h k =
       run_by (w.notices number) ∙ ap is_some (sym (h.notices.running number) ∙ k.notices.running number) ∙ sym (run_by (u.notices number))
 
-  visit_needs : (d : Desk K V E same hash) (w u : DeskPart K V E) (v : Visit K V E) → desk.StandsFor eq d w → desk.StandsFor eq d u → VisitNeedsMemory w v → VisitNeedsMemory u v
+  visit_needs : (d : TheDesk K V E same hash) (w u : DeskPart K V E) (v : Visit K V E) → desk.StandsFor eq d w → desk.StandsFor eq d u → VisitNeedsMemory w v → VisitNeedsMemory u v
   visit_needs d w u (visit.NoticeEnded n number) h k needs = sym (same_running d w u number h k) ∙ needs
   visit_needs d w u (visit.TakeTurn n) h k needs = ap (λ t. option_map_or (λ holder. holder == n) t true) (sym k.turn ∙ h.turn) ∙ needs
   visit_needs d w u (visit.Register test) h k needs = ap (λ r. r.closures) (sym k.rules ∙ h.rules) ∙ needs
   visit_needs d w u _ h k needs = needs
 
-  access_needs : (d : Desk K V E same hash) (w u : World K V E) (a : Access K V E) → desk.StandsFor eq d w.desk → desk.StandsFor eq d u.desk → NeedsMemory w a → NeedsMemory u a
+  access_needs : (d : TheDesk K V E same hash) (w u : World K V E) (a : Access K V E) → desk.StandsFor eq d w.desk → desk.StandsFor eq d u.desk → NeedsMemory w a → NeedsMemory u a
   access_needs d w u (step.On_table operation) h k needs = tt
   access_needs d w u (step.On_desk v) h k needs = visit_needs d w.desk u.desk v h k needs
 

@@ -11,11 +11,10 @@ use Rattle.moka_hist.specs.declared.accesses.Got.TheVariants as got
 use Rattle.moka_hist.specs.declared.record_tests.Tests as Tests
 use Rattle.moka_desk.specs.History.{KeepsAsBefore}
 use Rattle.moka_layers.specs.Layers.{GroundIs, OthersStay}
-use Rattle.moka_layers.specs.declared.layers.Layers.{Layers}
 use Rattle.moka_layers.proofs.Wanted.{last_same}
 use Rattle.moka_machine.specs.Calls.{running_at}
 use Rattle.moka_machine.specs.Machine.{Reaches}
-use Rattle.moka_machine.specs.TheTable.{TheCall, TheTable, the_table}
+use Rattle.moka_machine.specs.TheTable.{TheLayers, the_table}
 use Rattle.moka_machine.specs.declared.calls.Calls.{Calls}
 
 module _ {K V E : Type 0} (eq : K → K → Bool) where
@@ -28,7 +27,7 @@ module _ {K V E : Type 0} (eq : K → K → Bool) where
 
 module _ {K V E T : Type 0} {same : PartialEq.Ghosts K} {hash : Hash.Ghosts K} (eq : K → K → Bool) (q : Tests.Ghosts T K V) where
   -- where no call number was given out, and the others may go on with what they have begun
-  pub still_reaches : (old new : Layers K V E (TheTable K V) (TheCall K V) T same hash) (calls : Calls K V E) (w after : World K V E) → new.call ≡ old.call
+  pub still_reaches : (old new : TheLayers K V E T same hash) (calls : Calls K V E) (w after : World K V E) → new.call ≡ old.call
       → after.desk.last ≡ w.desk.last → GroundIs eq (the_table eq) q new after → OthersStay (the_table eq) old w new after → KeepsAsBefore old.desk new.desk
       → Reaches eq q (record { layers = old; calls = calls }) w → Reaches eq q (record { layers = new; calls = calls }) after
   still_reaches old new calls w after call last layers stay kept h =

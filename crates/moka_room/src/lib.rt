@@ -8,6 +8,12 @@ pub mod map_room;
 pub mod set_room;
 pub mod vec_room;
 
+use std::hash::{BuildHasherDefault, FoldHasher};
+
+/// The hasher that std's maps have by default. Its seed is fixed: who picks keys can pick such that
+/// fall together.
+pub type FixedSeed = BuildHasherDefault<FoldHasher>;
+
 /// A collection of no more places than this keeps them all.
 const FEW: usize = 1024;
 

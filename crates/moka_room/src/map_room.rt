@@ -6,11 +6,14 @@ ghost use Rattle.std.specs.HashMap.{spare, IsReordered};
 use crate::{FEW, fewer};
 use std::alloc::AllocError;
 use std::collections::HashMap;
-use std::hash::Hash;
+use std::hash::{BuildHasher, Hash};
 
 /// Makes room for so many more entries, and gives back what is far more than that.
 #[inline(always)]
-pub fn reserve<K: Eq + Hash, V>(map: &mut HashMap<K, V>, room: usize) -> Result<(), AllocError>
+pub fn reserve<K: Eq + Hash, V, S: BuildHasher>(
+    map: &mut HashMap<K, V, S>,
+    room: usize,
+) -> Result<(), AllocError>
     ensures entries { IsReordered K.eq map.old map.new }
     ensures ok { OnOk result (room ≤ spare map.new) }
     ensures kept { min room (spare map.old) ≤ spare map.new }
@@ -25,8 +28,8 @@ pub fn reserve<K: Eq + Hash, V>(map: &mut HashMap<K, V>, room: usize) -> Result<
 /// for them. `places` is how many it had when it last grew or was made smaller, 0 of a new map. Gives back
 /// what is far more than that.
 #[inline(always)]
-pub fn reserve_half<K: Eq + Hash, V>(
-    map: &mut HashMap<K, V>,
+pub fn reserve_half<K: Eq + Hash, V, S: BuildHasher>(
+    map: &mut HashMap<K, V, S>,
     places: &mut usize,
     room: usize,
 ) -> Result<(), AllocError>
@@ -52,7 +55,7 @@ pub fn reserve_half<K: Eq + Hash, V>(
 /// many more entries: twice as many as that stay. Where there is no memory for the smaller map it
 /// stays as it is.
 #[inline(always)]
-pub fn give_back<K: Eq + Hash, V>(map: &mut HashMap<K, V>, room: usize)
+pub fn give_back<K: Eq + Hash, V, S: BuildHasher>(map: &mut HashMap<K, V, S>, room: usize)
     requires { room ≤ spare map.old }
     ensures entries { IsReordered K.eq map.old map.new }
     ensures room { room ≤ spare map.new }
@@ -64,7 +67,7 @@ pub fn give_back<K: Eq + Hash, V>(map: &mut HashMap<K, V>, room: usize)
 
 // Gives places of a map back that has many.
 #[inline(never)]
-fn shrink<K: Eq + Hash, V>(map: &mut HashMap<K, V>, room: usize)
+fn shrink<K: Eq + Hash, V, S: BuildHasher>(map: &mut HashMap<K, V, S>, room: usize)
     requires { room ≤ spare map.old }
     ensures entries { IsReordered K.eq map.old map.new }
     ensures room { room ≤ spare map.new }

@@ -1,15 +1,14 @@
 -- The lists that a plain table gives.
-use Rattle.std.proofs.Common.{◌≡◌, ◌<◌, ℕ, true, Bool, List, [], length, inr, refl, sym, ap, subst, ◌∙◌, arith}
-use Rattle.std.specs.Prelude.{All, is_some, IsSome}
-use Rattle.std.specs.List.{IsDistinct, list_any}
+use Rattle.std.proofs.Common.{◌≡◌, ℕ, Bool, List, [], length, inr, refl, sym, subst, ◌∙◌, arith}
+use Rattle.std.specs.Prelude.{All, is_some}
+use Rattle.std.specs.List.{IsDistinct}
 use Rattle.std.specs.HashMap.{ContainsKey, IsUnique, get, hash_map_len, keys}
 use Rattle.std.specs.Set.{is_member}
 use Rattle.std.proofs.lemmas.List.Elements.{All-nil}
-use Rattle.moka_table.specs.Map.{longest}
-use Rattle.moka_table.specs.Plain.{IsOfPart, IsPlainList, map_of, peak_of, plain_first}
+use Rattle.moka_table.specs.Plain.{IsOfPart, IsPlainList}
 use Rattle.moka_table.specs.declared.plain.PlainTable.{PlainTable}
 
-module _ {K V : Type 0} (eq : K → K → Bool) (t : PlainTable K V) where
+module _ {K V S H : Type 0} (eq : K → K → Bool) (t : PlainTable K V S H) where
   -- its keys are the list of its one part
   pub keys_listed : (listed : List K) → listed ≡ keys t.pairs → IsUnique eq t.pairs
       → All (ContainsKey eq t.pairs) (keys t.pairs)

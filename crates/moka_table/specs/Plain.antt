@@ -7,11 +7,11 @@ use Rattle.moka_table.specs.declared.plain.PlainCall.{PlainCall}
 use Rattle.moka_table.specs.declared.table.Table as Table
 
 -- the stored pair of each key
-abbrev pub map_of : {K V : Type 0} → (K → K → Bool) → PlainTable K V → Pairs K V
+abbrev pub map_of : {K V S H : Type 0} → (K → K → Bool) → PlainTable K V S H → Pairs K V
 map_of eq t q = get eq t.pairs q
 
 -- the most keys that there were at once: before its latest removal, or now
-abbrev pub peak_of : {K V : Type 0} → PlainTable K V → ℕ
+abbrev pub peak_of : {K V S H : Type 0} → PlainTable K V S H → ℕ
 peak_of t = max t.most (hash_map_len t.pairs)
 
 -- it has no arrays: the least that a first array may be
@@ -40,14 +40,15 @@ abbrev pub AllCovered : {K : Type 0} → K → Type 0
 AllCovered key = Unit {0}
 
 -- these are the keys of the part
-abbrev pub IsPlainList : {K V : Type 0} → (K → K → Bool) → PlainTable K V → ℕ → List K → Type 0
+abbrev pub IsPlainList : {K V S H : Type 0} → (K → K → Bool) → PlainTable K V S H → ℕ → List K →
+    Type 0
 IsPlainList eq t part keys =
     IsList eq (map_of eq t) (IsOfPart part) NoneListed AllCovered
     (longest plain_first (peak_of t)) keys
 
 -- what contracts see of a plain table
-abbrev pub plain_table : {K V : Type 0} → (K → K → Bool) →
-    Table.Ghosts (PlainTable K V) K V (PlainCall K V)
+abbrev pub plain_table : {K V S H : Type 0} → (K → K → Bool) →
+    Table.Ghosts (PlainTable K V S H) K V (PlainCall K V)
 plain_table eq =
     record {
       map = map_of eq;

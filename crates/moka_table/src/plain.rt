@@ -15,18 +15,18 @@ ghost use Rattle.moka_table.specs.Plain.{map_of, peak_of, plain_first, plain_lef
 
 use crate::{EntryList, Table};
 use moka_hist::{KeyList, Stored, TableAnswer, TableOp, TableTurn};
-use moka_room::map_room;
+use moka_room::{FixedSeed, map_room};
 use moka_values::Exact;
 use std::alloc::{AllocError, Global};
 use std::cmp;
 use std::collections::HashMap;
-use std::hash::Hash;
+use std::hash::{BuildHasher, Hash};
 
-/// A table over one hash map. Each operation decides at its one step.
+/// A table over one hash map, which hashes keys by S. Each operation decides at its one step.
 #[derive(Drop)]
-pub struct PlainTable<K: Eq + Hash, V> {
+pub struct PlainTable<K: Eq + Hash, V, S: BuildHasher = FixedSeed> {
     alloc: Global,
-    pairs: HashMap<K, (K, Stored<V>)>,
+    pairs: HashMap<K, (K, Stored<V>), S>,
     // The most pairs that there were at once before the latest removal.
     most: usize,
 }
@@ -37,14 +37,23 @@ pub struct PlainCall<K, V> {
     operation: Option<TableOp<K, V>>,
 }
 
-impl<K: Eq + Hash + Exact, V: Exact> PlainTable<K, V> {
-    /// A table without keys. It takes no memory.
+impl<K: Eq + Hash + Exact, V: Exact> PlainTable<K, V, FixedSeed> {
+    /// A table without keys, which hashes by std's fixed seed. It takes no memory.
     pub fn new(alloc: Global) -> Self
+        ensures empty { IsEmptyTable (plain_table K.eq) result }
+    {
+        PlainTable::with_hasher(alloc, FixedSeed::new())
+    }
+}
+
+impl<K: Eq + Hash + Exact, V: Exact, S: BuildHasher> PlainTable<K, V, S> {
+    /// A table without keys, which hashes by this hasher. It takes no memory.
+    pub fn with_hasher(alloc: Global, hasher: S) -> Self
         ensures empty { IsEmptyTable (plain_table K.eq) result }
     {
         PlainTable {
             alloc,
-            pairs: HashMap::new(alloc),
+            pairs: HashMap::with_hasher(alloc, hasher),
             most: 0,
         }
     }
@@ -130,7 +139,7 @@ impl<K: Eq + Hash + Exact, V: Exact> PlainTable<K, V> {
     }
 }
 
-impl<K: Eq + Hash + Exact, V: Exact> PlainTable<K, V> {
+impl<K: Eq + Hash + Exact, V: Exact, S: BuildHasher> PlainTable<K, V, S> {
     // The one step of a look. Without memory the call is as before.
     fn step_look(&self, call: &mut PlainCall<K, V>, key: K) -> Result<TableTurn<K, V>, AllocError>
         ensures ok { IfOk result (λ t.
@@ -285,7 +294,7 @@ impl<K: Eq + Hash + Exact, V: Exact> PlainTable<K, V> {
     }
 }
 
-impl<K: Eq + Hash + Exact, V: Exact> Table<K, V> for PlainTable<K, V> {
+impl<K: Eq + Hash + Exact, V: Exact, S: BuildHasher> Table<K, V> for PlainTable<K, V, S> {
     type Call = PlainCall<K, V>;
 
     ghost map = { λ t. map_of K.eq t };

@@ -2,6 +2,8 @@
 use Rattle.std.proofs.Common.{◌≡◌, ◌≤◌, ℕ, ◌==◌, nat_eq, Bool, true, false, cond, Option, Some, None, IsSome, IfSome, Result, Ok, Err, IfOk, OnErr, refl, sym, subst, ◌∙◌, arith}
 use Rattle.std.specs.declared.cmp.PartialEq as PartialEq
 use Rattle.std.specs.declared.hash.Hash as Hash
+use Rattle.std.specs.declared.hash.Hasher as Hasher
+use Rattle.std.specs.declared.hash.BuildHasher as BuildHasher
 use Rattle.moka_hist.specs.Bound.{times_of}
 use Rattle.moka_hist.specs.State.{Listed, TablePart, World}
 use Rattle.moka_hist.specs.Step.{Access, May}
@@ -86,9 +88,9 @@ module _ {T C : Type 0} (t : Table.Ghosts T ℕ ℕ C) where
   may_so table None fits within = fits
   may_so table (Some c) fits within = (fits.0, within)
 
-module _ {T C : Type 0} {same : PartialEq.Ghosts ℕ} {hash : Hash.Ghosts ℕ} (t : Table.Ghosts T ℕ ℕ C) where
+module _ {T C S H : Type 0} {same : PartialEq.Ghosts ℕ} {hash : Hash.Ghosts ℕ} {build : BuildHasher.Ghosts S H} {hasher : Hasher.Ghosts H} (t : Table.Ghosts T ℕ ℕ C) where
   -- after an access that any world allows
-  pub stands_then : {F : Type 0} (r : Result (Got ℕ ℕ ℕ) F) (old new : Layers ℕ ℕ ℕ T C NoTests same hash) (wish : Want ℕ ℕ ℕ) (access : Access ℕ ℕ ℕ)
+  pub stands_then : {F : Type 0} (r : Result (Got ℕ ℕ ℕ) F) (old new : Layers ℕ ℕ ℕ T C NoTests S H same hash build hasher) (wish : Want ℕ ℕ ℕ) (access : Access ℕ ℕ ℕ)
       → wanted (operation_in t old.begun) wish ≡ Some access → ((w : World ℕ ℕ ℕ) → May w access)
       → IfOk r (λ given. OfWanted (account_of t old) wish (λ a. Serves nat_eq t no_tests old a given new))
       → OnErr r (LayersStay nat_eq t no_tests old new) → Stands t old → Stands t new
@@ -97,11 +99,11 @@ module _ {T C : Type 0} {same : PartialEq.Ghosts ℕ} {hash : Hash.Ghosts ℕ} (
   stands_then (Err e) old new wish access is may serves err stands = (stands.0, (err stands.0 stands.1).0)
 
   -- what was begun may go on
-  pub may_go_on : (layers : Layers ℕ ℕ ℕ T C NoTests same hash) → Stands t layers → MayGoOn t layers.table layers.begun
+  pub may_go_on : (layers : Layers ℕ ℕ ℕ T C NoTests S H same hash build hasher) → Stands t layers → MayGoOn t layers.table layers.begun
   may_go_on layers stands = may_so t layers.table layers.begun stands.1.begun.fits stands.1.begun.within
 
   -- after changes of the table, beside which what was begun may go on
-  pub stands_after : (old : Layers ℕ ℕ ℕ T C NoTests same hash) (after : T) → Stands t old → MayGoOn t after old.begun
+  pub stands_after : (old : Layers ℕ ℕ ℕ T C NoTests S H same hash build hasher) (after : T) → Stands t old → MayGoOn t after old.begun
       → t.first after ≡ t.first old.table → t.divided after ≡ t.divided old.table
       → ((q : ℕ) → t.part_of after q ≡ t.part_of old.table q) → Stands t (record old { table = after })
   stands_after old after stands goes first parts part_of =

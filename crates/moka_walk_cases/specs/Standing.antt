@@ -2,6 +2,8 @@
 use Rattle.std.specs.Prelude.{◌≤◌, ℕ, nat_eq, Bool, false, Option, IfSome}
 use Rattle.std.specs.declared.cmp.PartialEq as PartialEq
 use Rattle.std.specs.declared.hash.Hash as Hash
+use Rattle.std.specs.declared.hash.Hasher as Hasher
+use Rattle.std.specs.declared.hash.BuildHasher as BuildHasher
 use Rattle.moka_hist.specs.State.{Handed, World}
 use Rattle.moka_hist.specs.declared.record_tests.Tests as Tests
 use Rattle.moka_ids.specs.Drawn.{ids_from, seeded}
@@ -23,8 +25,9 @@ abbrev pub no_tests_handed : Handed ℕ ℕ
 no_tests_handed = record { tests = no_test; predicates = no_test; ids = ids_from (seeded 0) }
 
 -- the layers stand for some world
-abbrev pub Stands : {T C : Type 0} {same : PartialEq.Ghosts ℕ} {hash : Hash.Ghosts ℕ} → Table.Ghosts T ℕ ℕ C
-    → Layers ℕ ℕ ℕ T C NoTests same hash → Type 0
+abbrev pub Stands : {T C S H : Type 0} {same : PartialEq.Ghosts ℕ} {hash : Hash.Ghosts ℕ}
+    {build : BuildHasher.Ghosts S H} {hasher : Hasher.Ghosts H} → Table.Ghosts T ℕ ℕ C
+    → Layers ℕ ℕ ℕ T C NoTests S H same hash build hasher → Type 0
 Stands t layers = (w : World ℕ ℕ ℕ) × GroundIs nat_eq t no_tests layers w
 
 -- what was begun on the table goes on there, for no longer than an operation may

@@ -3,6 +3,8 @@ use Rattle.std.proofs.Common.{◌≡◌, ◌≢◌, ℕ, Bool, true, refl, sym, 
 use Rattle.std.specs.Prelude.{Result, Ok, Err, IfOk, OnErr, MatchResult}
 use Rattle.std.specs.declared.cmp.PartialEq as PartialEq
 use Rattle.std.specs.declared.hash.Hash as Hash
+use Rattle.std.specs.declared.hash.Hasher as Hasher
+use Rattle.std.specs.declared.hash.BuildHasher as BuildHasher
 use Rattle.moka_hist.specs.State.{DeskPart, Handed}
 use Rattle.moka_hist.specs.Visits.{registered_with, registering}
 use Rattle.moka_hist.specs.declared.predicates.PredicateError.{PredicateError}
@@ -40,21 +42,21 @@ module _ {V E F : Type 0} (why : PredicateError) where
   wanted_so (Ok f) P is there = tt
   wanted_so (Err e) P is there = there is
 
-module _ {K V E : Type 0} {same : PartialEq.Ghosts K} {hash : Hash.Ghosts K} where
-  abbrev Finds : (K → K → Bool) → Desk K V E same hash → (ℕ → ℕ) → Result ℕ PredicateError → Type 0
+module _ {K V E S H : Type 0} {same : PartialEq.Ghosts K} {hash : Hash.Ghosts K} {build : BuildHasher.Ghosts S H} {hasher : Hasher.Ghosts H} where
+  abbrev Finds : (K → K → Bool) → Desk K V E S H same hash build hasher → (ℕ → ℕ) → Result ℕ PredicateError → Type 0
   Finds eq old before r = (w : DeskPart K V E) → StandsFor eq old w → Draws before w → r ≡ registering w
 
-  abbrev Makes : (K → K → Bool) → Desk K V E same hash → (ℕ → ℕ) → ℕ → Desk K V E same hash → Type 0
+  abbrev Makes : (K → K → Bool) → Desk K V E S H same hash build hasher → (ℕ → ℕ) → ℕ → Desk K V E S H same hash build hasher → Type 0
   Makes eq old before test new = (w : DeskPart K V E) → StandsFor eq old w → Draws before w → StandsFor eq new (registered_with w test)
 
-  abbrev Leaves : (K → K → Bool) → Desk K V E same hash → (ℕ → ℕ) → ℕ → (ℕ → ℕ) → Type 0
+  abbrev Leaves : (K → K → Bool) → Desk K V E S H same hash build hasher → (ℕ → ℕ) → ℕ → (ℕ → ℕ) → Type 0
   Leaves eq old before test left = (w : DeskPart K V E) → StandsFor eq old w → Draws before w → Draws left (registered_with w test)
 
-  abbrev Registers : (K → K → Bool) → Desk K V E same hash → (ℕ → ℕ) → ℕ → Desk K V E same hash → (ℕ → ℕ) → Found V E → Type 0
+  abbrev Registers : (K → K → Bool) → Desk K V E S H same hash build hasher → (ℕ → ℕ) → ℕ → Desk K V E S H same hash build hasher → (ℕ → ℕ) → Found V E → Type 0
   Registers eq old before test new left f =
       (handed : Handed K V) → VisitBy eq (record handed { ids = before }) old (visit.Register test) f new (record handed { ids = left })
 
-  registers_so : (eq : K → K → Bool) (old : Desk K V E same hash) (before : ℕ → ℕ) (test : ℕ) (new : Desk K V E same hash) (left : ℕ → ℕ) (r : Result ℕ PredicateError)
+  registers_so : (eq : K → K → Bool) (old : Desk K V E S H same hash build hasher) (before : ℕ → ℕ) (test : ℕ) (new : Desk K V E S H same hash build hasher) (left : ℕ → ℕ) (r : Result ℕ PredicateError)
       → Finds eq old before r → Makes eq old before test new → Leaves eq old before test left → Registers eq old before test new left (found.Register r)
   registers_so eq old before test new left r finds makes leaves handed = record {
     form = (r, refl);

@@ -1,7 +1,8 @@
 -- A pending call awaits its notice, whose poll is pending.
 use Rattle.std.proofs.Common.{Some, ap}
+use Rattle.moka_kept.specs.Ends.{MayEnd}
 use Rattle.moka_cache.specs.Hearing.{Ends, IsHeard, heard_in}
-use Rattle.moka_cache.proofs.Ending.{awaited_polled, ready_so}
+use Rattle.moka_cache.proofs.Ending.{awaited_polled, ready_so, whichever}
 use Rattle.moka_cache.proofs.cache.Shared.after_due.Goals as goal
 
 pub returns-in-Some-clause-cause : goal.returns-in-Some-clause-cause
@@ -12,8 +13,13 @@ returns-in-Some-clause-armed g c = λ pending. c.in-Some.ensures.armed (ap Some 
 
 pub returns-in-Some-clause-heard : goal.returns-in-Some-clause-heard
 returns-in-Some-clause-heard g c =
-    ready_so (heard_in c.go_with.result) c.in-Some.poll (IsHeard (Ends g.L.Listener.ends c.args.self.now.listener) c.args.flow.now) c.go_with.ensures.heard c.in-Some.ensures.ended
+    ready_so (heard_in c.go_with.result) c.in-Some.poll (IsHeard (Ends (MayEnd g.L.Listener.quits) c.args.self.now.listener) c.args.flow.now) c.go_with.ensures.heard c.in-Some.ensures.ended
 
 pub returns-in-Some-clause-polled : goal.returns-in-Some-clause-polled
 returns-in-Some-clause-polled g c = λ pending.
     awaited_polled c.args.flow.now g.L.Listener.pends c.args.self.now.listener (c.in-Some.ensures.cause (ap Some (c.go_with.ensures.same pending)))
+
+pub start-requires : goal.start-requires
+start-requires g c = record {
+  hears = whichever c.args.self.now.listener (λ l. g.L.Listener.hears l c.args.due.key c.args.due.value) (λ l. c.requires.hears l c.args.due.key c.args.due.value);
+}

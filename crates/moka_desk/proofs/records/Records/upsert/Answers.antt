@@ -1,5 +1,4 @@
-use Rattle.std.proofs.Common.{ℕ, Bool, ◌∷◌, [], ◌++◌, ◌||◌, List, Option, sym, subst}
-use Rattle.std.proofs.Math.Bool.{or-false}
+use Rattle.std.proofs.Common.{ℕ, ◌∷◌, [], ◌++◌, Option, sym, subst}
 use Rattle.moka_hist.specs.declared.writes.Write.TheVariants.{Upsert}
 use Rattle.moka_desk.proofs.Coming.{and_none}
 use Rattle.moka_desk.specs.Records.{RecordsAre, and_this}

@@ -1,5 +1,5 @@
 -- The end that is tested is the one that the call would read.
-use Rattle.std.proofs.Common.{ℕ, nat_eq, ap, sym, ◌∙◌}
+use Rattle.std.proofs.Common.{nat_eq, ap, sym, ◌∙◌}
 use Rattle.std.specs.HashMap.{get}
 use Rattle.std.specs.Option.{option_map}
 use Rattle.moka_needs.specs.Needs.{ending_of}

@@ -1,11 +1,11 @@
 -- What is neither held nor owed nor logged, and was not applied, stands nowhere.
-use Rattle.std.proofs.Common.{◌≡◌, ◌++◌, ℕ, Bool, true, false, not, IsTrue, cond, map, nat_lt, nat_eq, refl, sym, ap, ◌∙◌}
+use Rattle.std.proofs.Common.{◌≡◌, ◌++◌, Bool, true, false, not, IsTrue, cond, map, nat_lt, nat_eq, refl, sym, ap, ◌∙◌}
 use Rattle.std.specs.HashMap.{get}
 use Rattle.moka_hist.specs.Finite.{times}
 use Rattle.moka_hist.specs.Visits.{is_replaced, number_of}
 use Rattle.moka_hist.proofs.Owners.{is_none_of}
 use Rattle.moka_desk.specs.Held.{held_by}
-use Rattle.moka_desk.specs.Writes.{IsUnusedIn, WritePart, WritesAre}
+use Rattle.moka_desk.specs.Writes.{WritePart, WritesAre}
 use Rattle.moka_desk.proofs.Numbers.{among_by_times, among_none, none_in_both, not_among, not_made, unmade, unposted, unused_applied, unused_logged}
 use Rattle.moka_desk.proofs.Owing.{has_no_place, held_by_none, stands_nowhere}
 use Rattle.moka_desk.proofs.Recalling.{by_history}

@@ -1,11 +1,11 @@
-use Rattle.std.proofs.Common.{◌≡◌, ◌==◌, ◌||◌, ◌++◌, true, false, cond, List, map, nat_eq, is_some, refl, sym, ap, subst, ◌∙◌}
+use Rattle.std.proofs.Common.{◌≡◌, ◌==◌, ◌||◌, true, cond, List, map, nat_eq, is_some, sym, ap, subst, ◌∙◌}
 use Rattle.std.specs.HashMap.{get}
 use Rattle.std.specs.HashSet.{contains}
 use Rattle.moka_hist.specs.Finite.{times}
 use Rattle.moka_hist.specs.Visits.{number_of}
 use Rattle.moka_hist.specs.declared.writes.Write.{Write}
 use Rattle.moka_desk.specs.Held.{held_by, holds_number}
-use Rattle.moka_desk.proofs.Numbers.{logged_more, once_logged, still_apart, still_once}
+use Rattle.moka_desk.proofs.Numbers.{logged_more, still_apart}
 use Rattle.moka_desk.proofs.WhoHolds.{has_place, holder_is}
 use Rattle.moka_desk.proofs.writes.Writes.log_write.Goals as goal
 

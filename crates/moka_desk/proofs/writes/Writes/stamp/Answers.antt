@@ -1,4 +1,4 @@
-use Rattle.std.proofs.Common.{◌==◌, ◌∙◌, ◌||◌, cond, Some, is_some, nat_eq, refl, ap}
+use Rattle.std.proofs.Common.{◌==◌, ◌∙◌, ◌||◌, cond, Some, is_some, nat_eq, ap}
 use Rattle.std.specs.HashMap.{get}
 use Rattle.std.specs.HashSet.{contains}
 use Rattle.moka_hist.specs.declared.writes.Holding.TheVariants as holding

@@ -10,7 +10,7 @@ use Rattle.moka_kept.proofs.ground.Reach.starting_after.Goals as goal
 
 pub returns : goal.returns
 returns g c =
-    let empty = c.new.ensures.empty in
+    let empty = c.with_hasher.ensures.empty in
     let none = empty.peak in
     subst (λ layers. IsKept g.K.PartialEq.eq layers) (sym c.over.ensures.layers) (record {
       world = record {
@@ -24,7 +24,7 @@ returns g c =
         handed = record {
           tests = refl;
           predicates = refl;
-          ids = undrawn (seeded 0) c.new-2.result c.new-2.ensures;
+          ids = undrawn (seeded 0) c.new.result c.new.ensures;
         };
         stay = omega arith;
       };

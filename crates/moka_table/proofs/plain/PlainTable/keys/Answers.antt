@@ -1,6 +1,5 @@
-use Rattle.std.proofs.Common.{◌≡◌, rules, sym, ap, subst, ◌∙◌}
-use Rattle.std.specs.Prelude.{All, length}
-use Rattle.std.specs.HashMap.{ContainsKey, keys}
+use Rattle.std.proofs.Common.{rules, sym, ap, ◌∙◌}
+use Rattle.std.specs.Prelude.{length}
 use Rattle.std.specs.Set.{is_member}
 use Rattle.moka_table.proofs.Listing.{keys_listed}
 use Rattle.moka_table.proofs.plain.PlainTable.keys.Goals as goal
