@@ -11,6 +11,8 @@ use moka_cache_runs::replies::Reply::{Done, Value};
 use moka_cache_runs::rows::Event::Run;
 use moka_cache_runs::rows::{Row, wrong_row_on};
 use std::alloc::Global;
+use std::io;
+use std::io::ErrorKind;
 use std::test::Fail;
 use std::time::Duration;
 
@@ -84,5 +86,31 @@ fn a_time_is_a_thousand_years_at_most(rt: HostRuntime) -> Result<(), Fail> {
         refusal(rt.alloc(), both),
         Some(BuildError::TimeToLiveTooLong)
     );
+    Ok(())
+}
+
+#[test]
+fn why_no_cache_is_built_is_an_error_with_a_text(rt: HostRuntime) -> Result<(), Fail> {
+    let cases = [
+        (
+            BuildError::TimeToLiveTooLong,
+            ErrorKind::InvalidInput,
+            "time_to_live is longer than 1000 years",
+        ),
+        (
+            BuildError::TimeToIdleTooLong,
+            ErrorKind::InvalidInput,
+            "time_to_idle is longer than 1000 years",
+        ),
+        (BuildError::Memory, ErrorKind::OutOfMemory, "out of memory"),
+    ];
+    for (refusal, kind, text) in cases {
+        let told = format!(in rt.alloc(); "{refusal}")?;
+        assert_eq!(rt; told.as_str(), text);
+        let error = io::Error::from(refusal);
+        assert_eq!(rt; error.kind(), kind);
+        let told = format!(in rt.alloc(); "{error}")?;
+        assert_eq!(rt; told.as_str(), text);
+    }
     Ok(())
 }

@@ -3,10 +3,13 @@
 
 mod answers;
 mod cancelled;
+mod computes;
 mod counter;
 mod first;
 mod heard;
+mod loads;
 mod memo;
+mod own;
 mod pages;
 mod settings;
 mod sources;
@@ -27,5 +30,8 @@ fn show_all<R: Runtime>(rt: &R, alloc: Global) -> io::Result<()> {
     pages::show(rt, alloc)?;
     counter::show(rt, alloc)?;
     heard::show(rt, alloc)?;
-    cancelled::show(rt, alloc)
+    cancelled::show(rt, alloc)?;
+    loads::show(rt, alloc)?;
+    computes::show(rt, alloc)?;
+    own::show(rt, alloc)
 }
