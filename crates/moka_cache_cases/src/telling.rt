@@ -1,5 +1,6 @@
 //! What the errors of calls tell.
 
+use futures::future::err;
 use moka_cache::{Cache, CacheBuilder, LoadError, PollError, RetriesExhausted};
 use moka_cache_runs::caches::Numbers;
 use std::alloc::AllocGlobal;
@@ -54,6 +55,46 @@ fn errors_become_io_errors_of_one_text(rt: HostRuntime) -> Result<(), Fail> {
         assert_eq!(rt; error.kind(), kind);
         assert_eq!(rt; text_of(&rt, &error)?.as_str(), text);
     }
+    Ok(())
+}
+
+/// Numbers by number, of a source that tells why it has none.
+type Sourced = Cache<u32, u32, &'static str>;
+
+/// Asks a source that has no number, as a program whose errors are told by their text alone.
+fn ask_in_vain<R: Wait + RandomSource + AllocGlobal>(
+    rt: &R,
+    numbers: &Sourced,
+) -> anyhow::Result<u32> {
+    let source = err("no such number");
+    Ok(numbers.try_get_with(1, source).block_on(rt, 0)??)
+}
+
+#[test]
+fn errors_become_anyhow_errors_of_one_text(rt: HostRuntime) -> Result<(), Fail> {
+    let cases = [
+        (
+            anyhow::Error::from(PollError::CallsSpent),
+            "no call number is left",
+        ),
+        (anyhow::Error::from(PollError::Memory), "out of memory"),
+        (
+            anyhow::Error::from(RetriesExhausted),
+            "200 owners of the load were dropped",
+        ),
+    ];
+    for (error, text) in cases {
+        assert_eq!(rt; format!(in rt.alloc(); "{error}")?.as_str(), text);
+    }
+    let numbers: Sourced = Cache::new(rt.alloc(), 100)?;
+    let Err(error) = ask_in_vain(&rt, &numbers) else {
+        assert!(rt; false, "the source has a number");
+        return Ok(());
+    };
+    assert_eq!(rt;
+        format!(in rt.alloc(); "{error}")?.as_str(),
+        "no such number"
+    );
     Ok(())
 }
 
