@@ -1,11 +1,11 @@
 -- A get answers what stood under its key in a state since its start.
-use Rattle.std.proofs.Common.{◌≡◌, ℕ, ◌+◌, ◌≤◌, ◌==◌, Bool, true, false, List, [], ◌∷◌, Option, Some, None, MatchBool, refl, sym, ap, ◌∙◌, subst, arith}
+use Rattle.std.proofs.Common.{◌≡◌, ℕ, ◌+◌, ◌≤◌, Bool, true, false, List, [], ◌∷◌, Option, Some, None, refl, sym, ap, ◌∙◌, subst, arith}
 use Rattle.moka_hist.specs.State.{State, World, Call}
 use Rattle.moka_hist.specs.Plan.{Item, get_plan, is_disabled, plan_of}
 use Rattle.moka_hist.specs.Plan as plan
 use Rattle.moka_hist.specs.Next.{Next, goes}
 use Rattle.moka_hist.specs.Step.{Step}
-use Rattle.moka_hist.specs.Run.{Any, Becomes, Happens, IsReached, Refuses, Run, fresh_call, last_call, started}
+use Rattle.moka_hist.specs.Run.{Any, IsReached, Run, fresh_call, started}
 use Rattle.moka_hist.specs.declared.accesses.Turn.{Turn}
 use Rattle.moka_hist.specs.declared.accesses.Turn.TheVariants as turn
 use Rattle.moka_hist.specs.declared.events.Event.{Event}
@@ -14,7 +14,6 @@ use Rattle.moka_hist.specs.declared.events.Start.{Start}
 use Rattle.moka_hist.specs.declared.events.Start.TheVariants as start
 use Rattle.moka_hist.specs.declared.records.Stored.{Stored}
 use Rattle.moka_hist.specs.declared.replies.Answer.{Answer}
-use Rattle.moka_hist.specs.declared.replies.Refusal.TheVariants as refusal
 use Rattle.moka_hist.specs.declared.replies.Reply.{Reply}
 use Rattle.moka_hist.specs.declared.replies.Reply.TheVariants as reply
 use Rattle.moka_laws.specs.Starting.{Leads, WasStarted}
@@ -24,10 +23,10 @@ use Rattle.moka_laws.proofs.Kept.{runs}
 use Rattle.moka_laws.proofs.Following.{follow, leads_more, no_leads, one_leads, step_leads}
 use Rattle.moka_laws.proofs.Outcomes.{Outcomes, outcomes}
 use Rattle.moka_laws.proofs.Reached.{event_reached, run_reached, step_reached}
-use Rattle.moka_laws.proofs.Starting.{no_refusal, same_call}
 use Rattle.moka_laws.proofs.Steady.{rules_stable, step_rules}
 use Rattle.moka_laws.proofs.StepCases.{OnStep, step_cases}
 use Rattle.moka_callers.specs.Reading.{Answers, Between, GetsAnswerStored, Hides, Misses, ReadsSeeWrites, Shows}
+use Rattle.moka_callers.proofs.Began.{gives}
 use Rattle.moka_callers.proofs.Inserted.{inserts_stand}
 use Rattle.moka_callers.proofs.Since.{IsSo, so_followed}
 
@@ -182,28 +181,15 @@ module _ {K V E : Type 0} (eq : K → K → Bool) where
   rules_kept s t es rs run = runs eq (λ v. v.world.desk.rules ≡ s.world.desk.rules)
       (rules_stable eq s.world.desk.rules) s t es rs refl run
 
-  was_reached : (begin : Start K V) (n : ℕ) (s : State K V E) → WasStarted eq begin n s →
+  pub was_reached : (begin : Start K V) (n : ℕ) (s : State K V E) → WasStarted eq begin n s →
       IsReached eq s
   was_reached begin n s was = run_reached eq was.begun s was.led.events was.led.replies
       (event_reached eq was.before was.begun (event.Start begin) (reply.Call n) was.reached was.begins)
       was.led.run
 
-  -- a start that gives a number made its call
-  gives : (s b : State K V E) (m : ℕ) (key : K) →
-      Happens eq Any s (event.Start (start.Get key)) (reply.Call m) b →
-      (m ≡ s.world.desk.last + 1) × (b ≡ started s (start.Get key))
-  gives s b m key h = by (s.world.desk.last == last_call) h
-    where
-      by : (x : Bool) → MatchBool x (Refuses s refusal.CallsSpent (reply.Call m) b)
-          (Becomes (started s (start.Get key)) (reply.Call (s.world.desk.last + 1)) (reply.Call m) b) →
-          (m ≡ s.world.desk.last + 1) × (b ≡ started s (start.Get key))
-      by true h = absurd (no_refusal {K = K} {V = V} {E = E} m refusal.CallsSpent h.reply)
-      by false h =
-          (same_call {K = K} {V = V} {E = E} m (s.world.desk.last + 1) h.reply, h.after)
-
   pub answer_stored : GetsAnswerStored K V E eq
   answer_stored s b t u m key a es rs reached able begun run step =
-      let is = gives s b m key begun in
+      let is = gives eq s b m (start.Get key) begun in
       let so : HoldsIf (IsAt eq key b) b (b.calls m) = first is in
       let now : IsSo eq b m (IsAt eq key b) (at_on eq key b) (at_step eq key b m) t =
       follow eq (IsSo eq b m (IsAt eq key b) (at_on eq key b) (at_step eq key b m))

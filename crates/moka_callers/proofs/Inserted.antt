@@ -42,13 +42,13 @@ module _ {K V E : Type 0} (key : K) (value : V) where
   IsInserting (plan.Write at new moment) = (at ≡ key) × (new ≡ value)
   IsInserting _ = ⊥
 
-  abbrev AreInserting : List (Item K V E) → Type 0
+  abbrev pub AreInserting : List (Item K V E) → Type 0
   AreInserting [] = Unit {0}
   AreInserting (plan.Reply a ∷ rest) = rest ≡ []
   AreInserting (item ∷ rest) = IsInserting item × AreInserting rest
 
   -- a write is still to come
-  abbrev puts_ahead : List (Item K V E) → Bool
+  abbrev pub puts_ahead : List (Item K V E) → Bool
   puts_ahead [] = false
   puts_ahead (plan.Moment change ∷ rest) = true
   puts_ahead (plan.Write at new moment ∷ rest) = true
@@ -56,7 +56,7 @@ module _ {K V E : Type 0} (key : K) (value : V) where
 
   module _ (eq : K → K → Bool) (n : ℕ) (w : World K V E) (c : Call K V E) (Made : Type 0) where
     -- this step has put the pair in
-    abbrev PutNow : (K → Option (K × Stored V)) → Type 0
+    abbrev pub PutNow : (K → Option (K × Stored V)) → Type 0
     PutNow new =
         (moment : ℕ) × (rest : List (Item K V E)) ×
         (c.plan ≡ plan.Write key value moment ∷ rest) ×
@@ -64,12 +64,12 @@ module _ {K V E : Type 0} (key : K) (value : V) where
 
     -- how the insert goes on: a write is still to come, or the pair was put in; and so it was where
     -- the insert answers
-    abbrev LeftSo : (K → Option (K × Stored V)) → Option (Call K V E) → Type 0
+    abbrev pub LeftSo : (K → Option (K × Stored V)) → Option (Call K V E) → Type 0
     LeftSo new None = Made
     LeftSo new (Some d) =
         AreInserting d.plan × ((puts_ahead d.plan ≡ true) ⊎ (Made ⊎ PutNow new))
 
-    abbrev After : World K V E → Next K V E → Type 0
+    abbrev pub After : World K V E → Next K V E → Type 0
     After new next = LeftSo new.table.stored next.left
 
     -- it goes on with the rest

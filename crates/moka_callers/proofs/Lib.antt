@@ -3,6 +3,8 @@ pub mod Runs
 pub mod Turning
 pub mod Lives
 pub mod Numbering
+pub mod Began
+pub mod Parts
 pub mod Changed
 pub mod Owning
 pub mod Values
@@ -15,3 +17,14 @@ pub mod Fresh
 pub mod Keeping
 pub mod Told
 pub mod Missed
+pub mod Quiet
+pub mod Found
+pub mod Settling
+pub mod Anew
+pub mod Asked
+pub mod Lasting
+pub mod Kept
+pub mod Listed
+pub mod Taken
+pub mod Failing
+pub mod Promised

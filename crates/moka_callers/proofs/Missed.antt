@@ -1,5 +1,5 @@
 -- A removal that took nothing out has seen why, since its start.
-use Rattle.std.proofs.Common.{◌≡◌, ◌≢◌, ℕ, ◌+◌, ◌≤◌, ◌==◌, Bool, true, false, cond, List, [], ◌∷◌, Option, Some, None, MatchBool, refl, sym, ap, ◌∙◌, subst, arith}
+use Rattle.std.proofs.Common.{◌≡◌, ◌≢◌, ℕ, ◌+◌, ◌≤◌, ◌==◌, Bool, true, false, cond, List, [], ◌∷◌, Option, Some, None, refl, sym, ap, ◌∙◌, subst, arith}
 use Rattle.std.proofs.lemmas.Bool.{false≢true, eq-eqb}
 use Rattle.moka_hist.specs.State.{State, Call}
 use Rattle.moka_hist.specs.Plan.{Item, look, plan_of, take_out, under_lock}
@@ -10,7 +10,7 @@ use Rattle.moka_hist.specs.Looking.{keeps}
 use Rattle.moka_hist.specs.Visits.{is_hit, times_at}
 use Rattle.moka_hist.specs.Step.{Step}
 use Rattle.moka_hist.specs.Tables.{taken_by}
-use Rattle.moka_hist.specs.Run.{Any, Becomes, Happens, Refuses, Run, last_call, started}
+use Rattle.moka_hist.specs.Run.{Any, Happens, Run, started}
 use Rattle.moka_hist.specs.declared.accesses.Turn.{Turn}
 use Rattle.moka_hist.specs.declared.accesses.Turn.TheVariants as turn
 use Rattle.moka_hist.specs.declared.events.Event.{Event}
@@ -20,7 +20,6 @@ use Rattle.moka_hist.specs.declared.events.Start.TheVariants as start
 use Rattle.moka_hist.specs.declared.records.Stored.{Stored}
 use Rattle.moka_hist.specs.declared.replies.Answer.{Answer}
 use Rattle.moka_hist.specs.declared.replies.Answer.TheVariants as answer
-use Rattle.moka_hist.specs.declared.replies.Refusal.TheVariants as refusal
 use Rattle.moka_hist.specs.declared.replies.Reply.{Reply}
 use Rattle.moka_hist.specs.declared.replies.Reply.TheVariants as reply
 use Rattle.moka_hist.specs.declared.rules.Cause.{Cause}
@@ -30,10 +29,10 @@ use Rattle.moka_laws.proofs.Counting.{none_some, put_here}
 use Rattle.moka_laws.proofs.Following.{follow, leads_more, no_leads, step_leads}
 use Rattle.moka_laws.proofs.Outcomes.{Outcomes, outcomes}
 use Rattle.moka_laws.proofs.Rules.{chosen_by, kept_next}
-use Rattle.moka_laws.proofs.Starting.{no_refusal, same_call}
 use Rattle.moka_laws.proofs.StepCases.{OnStep, step_cases}
 use Rattle.moka_callers.specs.Missing.{EvictsKeptSeen, Gone, KeptSince, RemovesFoundNone, Replaced, Spared}
 use Rattle.moka_callers.specs.Reading.{Between}
+use Rattle.moka_callers.proofs.Began.{gives}
 use Rattle.moka_callers.proofs.Since.{IsSo, so_followed}
 
 -- a state between two, from the first to a later one
@@ -118,7 +117,7 @@ module _ {K V E : Type 0} (eq : K → K → Bool) (b : State K V E) (begin : Sta
         AreOf b (plan_of s.world.table.division.parts s.world.desk.rules begin) →
         Run eq Any b es rs t → Step eq t n (turn.Answer nothing) u → Seen t
     seen_in_end s t u es rs begun first run step =
-        let is = gives (s.world.desk.last == last_call) begun in
+        let is = gives eq s b n begin begun in
         let now : IsSo eq b n IsAt at_on at_step t =
         follow eq (IsSo eq b n IsAt at_on at_step) (so_followed eq b n IsAt at_on at_step) b t es rs
         (record { led = no_leads eq b; born = born is; so = starts is }) run in
@@ -126,12 +125,6 @@ module _ {K V E : Type 0} (eq : K → K → Bool) (b : State K V E) (begin : Sta
       where
         Is : Type 0
         Is = (n ≡ s.world.desk.last + 1) × (b ≡ started s begin)
-
-        gives : (x : Bool) → MatchBool x (Refuses s refusal.CallsSpent (reply.Call n) b)
-            (Becomes (started s begin) (reply.Call (s.world.desk.last + 1)) (reply.Call n) b) → Is
-        gives true h = absurd (no_refusal {K = K} {V = V} {E = E} n refusal.CallsSpent h.reply)
-        gives false h =
-            (same_call {K = K} {V = V} {E = E} n (s.world.desk.last + 1) h.reply, h.after)
 
         born : Is → n ≤ b.world.desk.last
         born is = omega (arith, is.0, ap (λ (v : State K V E). v.world.desk.last) is.1)

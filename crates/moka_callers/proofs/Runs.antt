@@ -1,12 +1,22 @@
 -- What a run is made of.
-use Rattle.std.proofs.Common.{◌≡◌, inl, inr, ℕ, Bool, [], ◌∷◌, Option, Some, None, MatchOption, refl, ap, subst}
+use Rattle.std.proofs.Common.{◌≡◌, inl, inr, ℕ, zero, suc, Bool, List, [], ◌∷◌, ◌++◌, replicate, Option, Some, None, MatchOption, refl, ap, subst}
 use Rattle.moka_hist.specs.State.{Call, State}
 use Rattle.moka_hist.specs.Run.{Any, Goings, Happens, IsReached, Polls, Refuses, Run, Steps}
+use Rattle.moka_hist.specs.declared.accesses.Turn.TheVariants as turn
+use Rattle.moka_hist.specs.declared.events.Event.{Event}
+use Rattle.moka_hist.specs.declared.events.Event.TheVariants as event
 use Rattle.moka_hist.specs.declared.replies.Refusal.TheVariants as refusal
 use Rattle.moka_hist.specs.declared.replies.Reply.{Reply}
+use Rattle.moka_hist.specs.declared.replies.Reply.TheVariants as reply
 use Rattle.moka_laws.proofs.Counting.{none_some}
 use Rattle.moka_laws.proofs.Reached.{steps_reached}
-use Rattle.moka_callers.specs.Running.{IsLastStep, RepliesAreSteps, Splits, RunSplits, RunsJoin}
+use Rattle.moka_callers.specs.Running.{IsLastStep, PollsAreSteps, RepliesAreSteps, Splits, RunSplits, RunsJoin}
+
+-- one more at the end of equal ones is one more at their beginning
+shifted : {A : Type 0} (k : ℕ) (x : A) (xs : List A) →
+    replicate k x ++ x ∷ xs ≡ x ∷ replicate k x ++ xs
+shifted zero x xs = refl
+shifted (suc k) x xs = ap (λ v. x ∷ v) (shifted k x xs)
 
 module _ {K V E : Type 0} (eq : K → K → Bool) where
   pub splits : RunSplits K V E eq
@@ -80,3 +90,38 @@ module _ {K V E : Type 0} (eq : K → K → Bool) where
       of_step s t n r reached
       (live_one (s.calls n) c live (Refuses s refusal.UnknownCall r t) (λ _. Steps eq s n r t)
       (subst (λ v. Happens eq Any s v r t) is h))
+
+  -- a step is what its event makes
+  stepped : (s t : State K V E) (n : ℕ) (r : Reply K V E) → Steps eq s n r t →
+      Happens eq Any s (event.Step n) r t
+  stepped s t n r steps = rw steps.step.live steps
+
+  -- steps that leave the call going are a run of as many step events
+  pub goings_run : (k : ℕ) (s m t : State K V E) (n : ℕ) (es : List (Event K V E))
+      (rs : List (Reply K V E)) → Goings eq Any k s n m → Run eq Any m es rs t →
+      Run eq Any s (replicate k (event.Step n) ++ es) (replicate k reply.Going ++ rs) t
+  unfolding Goings
+  goings_run zero s m t n es rs goes run = subst (λ v. Run eq Any v es rs t) goes run
+  goings_run (suc k) s m t n es rs goes run =
+      let one : Run eq Any goes.0 (event.Step n ∷ es) (reply.Going ∷ rs) t = (
+        m,
+        stepped goes.0 m n reply.Going (record { turn = turn.Going; step = goes.2; reply = refl }),
+        tt,
+        run,
+      ) in
+      subst (λ v. Run eq Any s v (reply.Going ∷ replicate k reply.Going ++ rs) t)
+      (shifted k (event.Step n) es)
+      (subst (λ v. Run eq Any s (replicate k (event.Step n) ++ event.Step n ∷ es) v t)
+      (shifted k reply.Going rs)
+      (goings_run k s goes.0 t n (event.Step n ∷ es) (reply.Going ∷ rs) goes.1 one))
+
+  pub polls : PollsAreSteps K V E eq
+  polls s t n c r live h =
+      let p : Polls eq Any s n r t = live_one (s.calls n) c live
+      (Refuses s refusal.UnknownCall r t) (λ _. Polls eq Any s n r t) h in
+      record {
+        going = p.going;
+        run = goings_run p.going s p.mid t n (event.Step n ∷ []) (r ∷ []) p.goes
+            (t, stepped p.mid t n r p.last, tt, refl);
+        ends = p.ends;
+      }

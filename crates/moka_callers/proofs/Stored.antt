@@ -1,14 +1,11 @@
 -- What stands in the table was put there by the call of its stamp.
-use Rattle.std.proofs.Common.{◌≡◌, ◌⊎◌, inl, inr, ℕ, ◌<◌, ◌==◌, Bool, true, false, cond, List, [], ◌∷◌, ◌++◌, Some, None, refl, sym, ap, ◌∙◌, subst, arith}
+use Rattle.std.proofs.Common.{◌≡◌, inl, inr, ℕ, ◌<◌, ◌==◌, Bool, true, false, cond, List, [], ◌∷◌, ◌++◌, Some, None, refl, sym, ap, ◌∙◌, subst, arith}
 use Rattle.std.proofs.lemmas.Bool.{eqb-true}
 use Rattle.moka_hist.specs.Finite.{put_key, times}
-use Rattle.moka_hist.specs.State.{State, World, Call, fresh}
+use Rattle.moka_hist.specs.State.{State, fresh}
 use Rattle.moka_hist.specs.Plan.{Item, Removal}
 use Rattle.moka_hist.specs.Plan as plan
-use Rattle.moka_hist.specs.Next.{Next}
 use Rattle.moka_hist.specs.Step.{Step}
-use Rattle.moka_hist.specs.Tables.{taken_by}
-use Rattle.moka_hist.specs.Writing.{stamp_asked}
 use Rattle.moka_hist.specs.Run.{IsReached}
 use Rattle.moka_hist.specs.declared.accesses.Turn.{Turn}
 use Rattle.moka_hist.specs.declared.records.Stored.{Stored}
@@ -18,12 +15,11 @@ use Rattle.moka_laws.proofs.Begun.{live_started}
 use Rattle.moka_laws.proofs.Counting.{none_some, some_same}
 use Rattle.moka_laws.proofs.Following.{IsFollowed, follow, made_on, no_leads}
 use Rattle.moka_laws.proofs.OnePlace.{contains_times}
-use Rattle.moka_laws.proofs.Outcomes.{Outcomes, outcomes}
 use Rattle.moka_laws.proofs.Reached.{fresh_reached, run_reached}
-use Rattle.moka_laws.proofs.StepCases.{OnStep, step_cases}
 use Rattle.moka_callers.specs.Changing.{ChangesBy}
 use Rattle.moka_callers.specs.Contents.{ChangesTable, CommitsAreMade, PutsOwn, RecordsAreOfCalls}
-use Rattle.moka_callers.proofs.Changed.{by_writes, taken_stood}
+use Rattle.moka_callers.proofs.Changed.{by_writes}
+use Rattle.moka_callers.proofs.Parts.{CommitsBy, step_commits}
 use Rattle.moka_callers.proofs.Values.{writes_own}
 
 module _ {K V E : Type 0} (eq : K → K → Bool) where
@@ -137,103 +133,7 @@ module _ {K V E : Type 0} (eq : K → K → Bool) where
 
 -- ---- commits
 
-module _ {K V E : Type 0} (eq : K → K → Bool) (w : World K V E) (n : ℕ) where
-  -- the number was committed last, and nothing else
-  abbrev Commits : World K V E → Type 0
-  Commits new = new.table.committed ≡ w.table.committed ++ n ∷ []
-
-  -- what a step commits, by the first item of its plan
-  abbrev CommitsBy : List (Item K V E) → World K V E → Type 0
-  CommitsBy (plan.Write key value moment ∷ rest) new =
-      (new.table.committed ≡ w.table.committed) ⊎
-      (Commits new × (new.table.stored ≡ put_key eq w.table.stored key
-      (Some (key, record { value = value; stamp = n; modified = moment }))))
-  CommitsBy (plan.Out removal key ∷ rest) new =
-      (new.table.committed ≡ w.table.committed) ⊎
-      ((pair : K × Stored V) × Commits new × (w.table.stored key ≡ Some pair)
-      × (new.table.stored ≡ put_key eq w.table.stored key None))
-  CommitsBy _ new = new.table.committed ≡ w.table.committed
-
-  module _ (c : Call K V E) where
-    abbrev After : List (Item K V E) → World K V E → Next K V E → Type 0
-    After p new next = CommitsBy p new
-
-    on_item : (item : Item K V E) (rest : List (Item K V E)) →
-        Outcomes eq (After (item ∷ rest)) w n c item rest
-    on_item plan.Drain rest = (λ none. refl, λ x xs some. refl, λ x number xs some. refl)
-    on_item (plan.Notice key old cause upsert) rest = (λ off. refl, λ on. refl)
-    on_item (plan.Post write) rest = (λ room. refl, λ full. refl)
-    on_item plan.Apply rest = (λ none. refl, λ y ys some. refl)
-    on_item (plan.Get aim key) rest = (λ more. refl, λ none. refl, λ k stored some. refl)
-    on_item (plan.Judge aim key stored) rest = (λ seen. refl, λ unseen. refl)
-    on_item (plan.Own sought) rest =
-        (λ able none. refl, λ disabled none. refl, λ owner some. refl)
-    on_item (plan.Own_key compute) rest =
-        ((λ able none. refl, λ disabled none. refl), λ owner some. refl)
-    on_item (plan.Own_alone key) rest =
-        ((λ able none. refl, λ disabled none. refl), λ owner some. (λ able. refl, λ disabled. refl))
-    on_item (plan.Read sought) rest = (λ none. refl, λ with some. refl)
-    on_item (plan.Read_key compute) rest = (λ none. refl, λ with some. refl)
-    on_item (plan.Settle with) rest = refl
-    on_item (plan.Ask load) rest = refl
-    on_item (plan.Ask_op compute pair) rest = refl
-    on_item (plan.Told load) rest = (λ none. refl, λ given some. refl)
-    on_item (plan.Told_op compute pair) rest = (λ none. refl, λ given some. refl)
-    on_item (plan.Holds key stamp cause there stored) rest = (λ holds. refl, λ not. refl)
-    on_item (plan.Moment (plan.To_store key value)) rest = refl
-    on_item (plan.Moment (plan.To_take_out removal key)) rest = refl
-    on_item (plan.Write key value moment) rest = (
-      λ more. inl refl,
-      λ off old. inr (refl, refl),
-      λ on. inr (refl, refl),
-      λ k old on some. inr (refl, refl),
-    )
-    on_item (plan.Out removal key) rest = (
-      λ more. inl refl,
-      λ off none. inl refl,
-      λ on none. inl refl,
-      λ k old off some. inr ((k, old), refl, stood k old some, refl),
-      λ k old on some. inr ((k, old), refl, stood k old some, refl),
-    )
-      where
-        stood : (k : K) (old : Stored V) →
-            taken_by (stamp_asked removal) (w.table.stored key) ≡ Some (k, old) →
-            w.table.stored key ≡ Some (k, old)
-        stood k old some = taken_stood (stamp_asked removal) (w.table.stored key) (k, old) some
-    on_item (plan.Register test) rest = refl
-    on_item (plan.List_keys part) rest = (λ more. refl, λ listed keys is gives. refl)
-    on_item (plan.Find key) rest = (
-      λ more. refl,
-      λ none. refl,
-      λ k stored some none. refl,
-      λ k stored ids some is. refl,
-    )
-    on_item (plan.Scan there stored) rest = (λ seen. refl, λ unseen. refl)
-    on_item (plan.Candidates parts) rest = (λ none. refl, λ id more some. refl)
-    on_item (plan.Strike there stored) rest = refl
-    on_item plan.Retire rest = refl
-    on_item (plan.Reply a) rest = refl
-    on_item (plan.Ended number) rest = (λ off. refl, λ on. refl)
-    on_item plan.Turn rest = (λ free. refl, λ taken. refl)
-    on_item plan.End rest = refl
-    on_item (plan.Lock key) rest = (λ free. refl, λ held. refl)
-    on_item (plan.Unlock wrote) rest = refl
-    on_item plan.Heard rest = (λ off. refl, λ on. refl)
-    on_item plan.Idle rest = refl
-    on_item plan.Invalidate_all rest = refl
-
-    pub on_plan : (p : List (Item K V E)) → OnStep eq (After p) w n c p
-    on_plan [] = refl
-    on_plan (item ∷ rest) = outcomes eq (After (item ∷ rest)) w n c item rest (on_item item rest)
-
 module _ {K V E : Type 0} (eq : K → K → Bool) where
-  step_commits : (s t : State K V E) (n : ℕ) (turn : Turn K V E) (step : Step eq s n turn t) →
-      CommitsBy eq s.world n step.call.plan t.world
-  step_commits s t n turn step =
-      step_cases eq (After eq s.world n step.call step.call.plan)
-      (λ v r. CommitsBy eq s.world n step.call.plan v.world)
-      s t n turn step (on_plan eq s.world n step.call step.call.plan) (λ w next commits. commits)
-
   -- the state is reached, and each committed number has changed the table
   record AreMade (s : State K V E) : Type 0 where
     reached : IsReached eq s
@@ -282,18 +182,18 @@ module _ {K V E : Type 0} (eq : K → K → Bool) where
 
   made_step : (s t : State K V E) (n : ℕ) (turn : Turn K V E) → Leads eq s t → AreMade s →
       Step eq s n turn t → AreMade t
-  made_step s t n turn led i step = by step.call.plan refl (step_commits s t n turn step)
+  made_step s t n turn led i step = by step.call.plan refl (step_commits eq s t n turn step)
     where
       by : (now : List (Item K V E)) → step.call.plan ≡ now → CommitsBy eq s.world n now t.world →
           AreMade t
-      by (plan.Write key value moment ∷ rest) is (inl same) = on_made s t led same i
+      by (plan.Write key value moment ∷ rest) is (inl same) = on_made s t led same.0 i
       by (plan.Write key value moment ∷ rest) is (inr h) =
           one_made s t n turn led i step h.0 (inl (
             key,
             record { value = value; stamp = n; modified = moment },
             puts_own eq s t n turn i.reached step key value moment rest is h.1,
           ))
-      by (plan.Out removal key ∷ rest) is (inl same) = on_made s t led same i
+      by (plan.Out removal key ∷ rest) is (inl same) = on_made s t led same.0 i
       by (plan.Out removal key ∷ rest) is (inr h) =
           one_made s t n turn led i step h.1 (inr (
             key,

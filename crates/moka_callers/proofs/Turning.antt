@@ -1,5 +1,5 @@
--- A step leaves its call live exactly where it doesn't answer.
-use Rattle.std.proofs.Common.{◌≡◌, ℕ, zero, suc, ◌+◌, ◌==◌, Bool, true, false, List, [], ◌∷◌, ◌++◌, map, Option, Some, is_some, refl, ap, ◌∙◌}
+-- How a step leaves its call goes by what it replies.
+use Rattle.std.proofs.Common.{◌≡◌, ℕ, zero, suc, ◌+◌, ◌==◌, Bool, true, false, List, [], ◌∷◌, ◌++◌, map, Option, Some, None, is_some, refl, sym, ap, ◌∙◌}
 use Rattle.moka_hist.specs.State.{State, World, Call}
 use Rattle.moka_hist.specs.Plan.{Item, Aim, lists_from}
 use Rattle.moka_hist.specs.Plan as plan
@@ -26,6 +26,7 @@ use Rattle.moka_laws.proofs.Counting.{put_here, put_there}
 use Rattle.moka_laws.proofs.Outcomes.{Outcomes, outcomes, passes_by}
 use Rattle.moka_laws.proofs.Rules.{chosen_by, kept_next, loaded_plans, put_plans, read_key_next, told_op_next}
 use Rattle.moka_laws.proofs.StepCases.{OnStep, step_cases}
+use Rattle.moka_callers.specs.Living.{ModesByReplies, mode_left, mode_of}
 
 module _ {K V E : Type 0} where
   -- the step doesn't answer
@@ -37,7 +38,7 @@ module _ {K V E : Type 0} where
   goes_on (turn.Item key value) = true
 
   abbrev Fits : Next K V E → Type 0
-  Fits next = is_some next.left ≡ goes_on next.turn
+  Fits next = mode_of next.left ≡ mode_left next.turn
 
   goes_fit : (c : Call K V E) (rest : List (Item K V E)) → Fits (goes c rest)
   goes_fit c (plan.Reply a ∷ []) = refl
@@ -155,13 +156,29 @@ module _ {K V E : Type 0} where
     on_plan (item ∷ rest) = outcomes eq After w n c item rest (on_item item rest)
 
 module _ {K V E : Type 0} (eq : K → K → Bool) where
-  -- the call that made the step is live then exactly where it didn't answer
+  -- what the call that made the step is then goes by the reply
+  pub modes_so : ModesByReplies K V E eq
+  modes_so s t n turn step = step_cases eq (After eq s.world n step.call)
+      (λ v r. mode_of (v.calls n) ≡ mode_left r) s t n turn step
+      (on_plan eq s.world n step.call step.call.plan)
+      (λ w next fits. ap mode_of (put_here s.calls n next.left) ∙ fits)
+
+  mode_some : (o : Option (Call K V E)) → is_some (mode_of o) ≡ is_some o
+  mode_some None = refl
+  mode_some (Some c) = refl
+
+  goes_mode : (turn : Turn K V E) → is_some (mode_left turn) ≡ goes_on turn
+  goes_mode turn.Going = refl
+  goes_mode turn.Wait = refl
+  goes_mode (turn.Ask ask) = refl
+  goes_mode (turn.Answer answer) = refl
+  goes_mode (turn.Item key value) = refl
+
+  -- so it is live exactly where it didn't answer
   pub live_still : (s t : State K V E) (n : ℕ) (turn : Turn K V E) → Step eq s n turn t →
       is_some (t.calls n) ≡ goes_on turn
-  live_still s t n turn step = step_cases eq (After eq s.world n step.call)
-      (λ v r. is_some (v.calls n) ≡ goes_on r) s t n turn step
-      (on_plan eq s.world n step.call step.call.plan)
-      (λ w next fits. ap is_some (put_here s.calls n next.left) ∙ fits)
+  live_still s t n turn step =
+      sym (mode_some (t.calls n)) ∙ ap is_some (modes_so s t n turn step) ∙ goes_mode turn
 
   -- and the others are as they were
   pub others_still : (s t : State K V E) (n m : ℕ) (turn : Turn K V E) → (n == m) ≡ false →

@@ -1,5 +1,5 @@
 -- What stands in the table, by whom it was put there, and what a call that committed has done.
-use Rattle.std.specs.Prelude.{◌≡◌, ◌⊎◌, ℕ, Bool, true, List, ◌∷◌, Some, None, Contains, MatchOption}
+use Rattle.std.specs.Prelude.{◌≡◌, ◌⊎◌, ℕ, Bool, true, false, List, ◌∷◌, Some, None, Contains, MatchOption}
 use Rattle.moka_hist.specs.Finite.{put_key}
 use Rattle.moka_hist.specs.State.{Call, State}
 use Rattle.moka_hist.specs.Plan.{Item, Removal}
@@ -7,10 +7,15 @@ use Rattle.moka_hist.specs.Plan as plan
 use Rattle.moka_hist.specs.Run.{Any, IsReached, Run}
 use Rattle.moka_hist.specs.Step.{Step}
 use Rattle.moka_hist.specs.declared.accesses.Turn.{Turn}
+use Rattle.moka_hist.specs.declared.accesses.Turn.TheVariants as turn
+use Rattle.moka_hist.specs.declared.entries.CompResult.TheVariants as done
 use Rattle.moka_hist.specs.declared.events.Event.{Event}
 use Rattle.moka_hist.specs.declared.events.Start.{Start}
+use Rattle.moka_hist.specs.declared.events.Start.TheVariants as start
 use Rattle.moka_hist.specs.declared.events.Told.{Told}
 use Rattle.moka_hist.specs.declared.records.Stored.{Stored}
+use Rattle.moka_hist.specs.declared.replies.Answer.{Answer}
+use Rattle.moka_hist.specs.declared.replies.Answer.TheVariants as answer
 use Rattle.moka_hist.specs.declared.replies.Reply.{Reply}
 use Rattle.moka_laws.specs.Given.{asked_key, value_in}
 use Rattle.moka_laws.specs.Starting.{HasMade, Leads, WasStarted}
@@ -83,6 +88,42 @@ abbrev pub CommitsAreMade : (K V E : Type 0) → (K → K → Bool) → Type 0
 CommitsAreMade K V E eq =
     (s : State K V E) (n : ℕ) → IsReached eq s → Contains s.world.table.committed n →
     HasMade eq s n (ChangesTable eq n)
+
+-- the answer tells of a change: of a value that the call stored or took out, or that the call is done
+abbrev pub tells_change : {K V E : Type 0} → Answer K V E → Bool
+tells_change answer.Done = true
+tells_change (answer.Found (Some value)) = true
+tells_change (answer.Found None) = false
+tells_change (answer.Loaded value fresh) = fresh
+tells_change answer.Nothing = false
+tells_change (answer.InitErr error) = false
+tells_change (answer.Computed (done.Inserted entry)) = true
+tells_change (answer.Computed (done.ReplacedWith entry)) = true
+tells_change (answer.Computed (done.Removed entry)) = true
+tells_change (answer.Computed (done.Unchanged entry)) = false
+tells_change (answer.Computed (done.StillNone key)) = false
+tells_change (answer.ComputeErr error) = false
+tells_change answer.RetriesExhausted = false
+tells_change answer.Evicted = true
+tells_change answer.Kept = false
+tells_change answer.End = false
+tells_change (answer.Id id) = false
+tells_change answer.ClosuresDisabled = false
+tells_change answer.NoId = false
+
+-- a call whose answer tells of no change has committed nothing
+abbrev pub QuietCommitNothing : (K V E : Type 0) → (K → K → Bool) → Type 0
+QuietCommitNothing K V E eq =
+    (s t : State K V E) (n : ℕ) (a : Answer K V E) → IsReached eq s →
+    Step eq s n (turn.Answer a) t → tells_change a ≡ false →
+    Contains t.world.table.committed n → ⊥
+
+-- and so has a get, whatever it answers
+abbrev pub GetsCommitNothing : (K V E : Type 0) → (K → K → Bool) → Type 0
+GetsCommitNothing K V E eq =
+    (s t : State K V E) (n : ℕ) (key : K) (a : Answer K V E) →
+    WasStarted eq (start.Get key) n s → Step eq s n (turn.Answer a) t →
+    Contains t.world.table.committed n → ⊥
 
 -- ---- what is left standing
 

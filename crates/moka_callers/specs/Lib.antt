@@ -7,4 +7,8 @@ pub mod Inserting
 pub mod Reading
 pub mod Telling
 pub mod Missing
+pub mod Undisturbed
+pub mod Loading
+pub mod Computing
+pub mod Listening
 pub mod Laws

@@ -1,9 +1,15 @@
 -- Which calls are live, by the replies so far.
-use Rattle.std.specs.Prelude.{◌≡◌, ℕ, ◌+◌, ◌==◌, suc, zero, Bool, false, not, ◌&&◌, ◌||◌, List, [], ◌∷◌, length, is_some}
-use Rattle.moka_hist.specs.State.{State}
+use Rattle.std.specs.Prelude.{◌≡◌, ℕ, ◌+◌, ◌==◌, suc, zero, Bool, false, not, ◌&&◌, ◌||◌, List, [], ◌∷◌, length, Option, Some, None, is_some}
+use Rattle.std.specs.Option.{option_map}
+use Rattle.moka_hist.specs.State.{Call, State}
+use Rattle.moka_hist.specs.Step.{Step}
 use Rattle.moka_hist.specs.Run.{Any, Run}
+use Rattle.moka_hist.specs.declared.accesses.Turn.{Turn}
+use Rattle.moka_hist.specs.declared.accesses.Turn.TheVariants as turn
 use Rattle.moka_hist.specs.declared.events.Event.{Event}
 use Rattle.moka_hist.specs.declared.events.Event.TheVariants as event
+use Rattle.moka_hist.specs.declared.records.Mode.{Mode}
+use Rattle.moka_hist.specs.declared.records.Mode.TheVariants as mode
 use Rattle.moka_hist.specs.declared.replies.Reply.{Reply}
 use Rattle.moka_hist.specs.declared.replies.Reply.TheVariants as reply
 
@@ -53,3 +59,22 @@ abbrev pub NumbersGoUp : (K V E : Type 0) → (K → K → Bool) → Type 0
 NumbersGoUp K V E eq =
     (s t : State K V E) (es : List (Event K V E)) (rs : List (Reply K V E)) →
     Run eq Any s es rs t → GivesNext s rs t
+
+module _ {K V E : Type 0} where
+  -- how far a call is, if it is live
+  abbrev pub mode_of : Option (Call K V E) → Option Mode
+  mode_of o = option_map (λ c. c.mode) o
+
+  -- how a step that replies so leaves its call: between two steps, parked, or no longer live
+  abbrev pub mode_left : Turn K V E → Option Mode
+  mode_left turn.Going = Some mode.Mid
+  mode_left turn.Wait = Some mode.Parked
+  mode_left (turn.Ask ask) = Some mode.Parked
+  mode_left (turn.Item key value) = Some mode.Parked
+  mode_left (turn.Answer answer) = None
+
+-- how far a call is after its step goes by what that replies
+abbrev pub ModesByReplies : (K V E : Type 0) → (K → K → Bool) → Type 0
+ModesByReplies K V E eq =
+    (s t : State K V E) (n : ℕ) (turn : Turn K V E) → Step eq s n turn t →
+    mode_of (t.calls n) ≡ mode_left turn

@@ -1,5 +1,5 @@
 -- What a run is made of.
-use Rattle.std.specs.Prelude.{◌≡◌, ◌⊎◌, ℕ, Bool, List, ◌++◌, Some}
+use Rattle.std.specs.Prelude.{◌≡◌, ◌≢◌, ◌⊎◌, ℕ, Bool, List, [], ◌∷◌, ◌++◌, replicate, Some}
 use Rattle.moka_hist.specs.State.{Call, State}
 use Rattle.moka_hist.specs.Step.{Step}
 use Rattle.moka_hist.specs.Run.{Any, Goings, Happens, IsReached, Run, reply_of}
@@ -7,6 +7,7 @@ use Rattle.moka_hist.specs.declared.accesses.Turn.{Turn}
 use Rattle.moka_hist.specs.declared.events.Event.{Event}
 use Rattle.moka_hist.specs.declared.events.Event.TheVariants as event
 use Rattle.moka_hist.specs.declared.replies.Reply.{Reply}
+use Rattle.moka_hist.specs.declared.replies.Reply.TheVariants as reply
 
 -- The replies are those to the first events, and then those to the others, with a state between.
 pub record Splits {K V E : Type 0} (eq : K → K → Bool) (s : State K V E) (es fs : List (Event K V E))
@@ -47,3 +48,18 @@ RepliesAreSteps K V E eq =
     (s t : State K V E) (n : ℕ) (c : Call K V E) (e : Event K V E) (r : Reply K V E) →
     IsReached eq s → s.calls n ≡ Some c → (e ≡ event.Poll n) ⊎ (e ≡ event.Step n) →
     Happens eq Any s e r t → IsLastStep eq s n r t
+
+-- The replies are those of so many steps of the call and one more: all but the last are that the
+-- call goes on, and the last is another.
+pub record AreSteps {K V E : Type 0} (eq : K → K → Bool) (s : State K V E) (n : ℕ)
+    (r : Reply K V E) (t : State K V E) : Type 0 where
+  pub going : ℕ
+  pub run : Run eq Any s (replicate going (event.Step n) ++ event.Step n ∷ [])
+      (replicate going reply.Going ++ r ∷ []) t
+  pub ends : r ≢ reply.Going
+
+-- a poll of a live call is a run of steps of that call
+abbrev pub PollsAreSteps : (K V E : Type 0) → (K → K → Bool) → Type 0
+PollsAreSteps K V E eq =
+    (s t : State K V E) (n : ℕ) (c : Call K V E) (r : Reply K V E) → s.calls n ≡ Some c →
+    Happens eq Any s (event.Poll n) r t → AreSteps eq s n r t

@@ -1,6 +1,6 @@
 //! What stands in the table, and by whom it was put there.
 
-ghost use Rattle.moka_callers.specs.Contents.{CommitsAreMade, RecordsAreOfCalls, RecordsStand};
+ghost use Rattle.moka_callers.specs.Contents.{CommitsAreMade, GetsCommitNothing, QuietCommitNothing, RecordsAreOfCalls, RecordsStand};
 
 /// A stored record was put in by a step of the call of its stamp: under the key of that call, and
 /// of the value that the call was started with, or was told as it had asked for the key.
@@ -18,4 +18,15 @@ pub fn commits_are_made<K: Eq, V, E>()
 /// an equal key, or nothing, which a step on the way left by taking out.
 pub fn records_stand<K: Eq, V, E>()
     ensures stands { RecordsStand K V E K.eq }
+{}
+
+/// A call whose answer tells of no change has committed nothing: that nothing was found, a value that
+/// is not fresh, nothing, an error, unchanged, still none, kept.
+pub fn quiet_commit_nothing<K: Eq, V, E>()
+    ensures nothing { QuietCommitNothing K V E K.eq }
+{}
+
+/// A get that answers has committed nothing.
+pub fn gets_commit_nothing<K: Eq, V, E>()
+    ensures nothing { GetsCommitNothing K V E K.eq }
 {}

@@ -1,6 +1,6 @@
 //! What a run is made of.
 
-ghost use Rattle.moka_callers.specs.Running.{RepliesAreSteps, RunSplits, RunsJoin};
+ghost use Rattle.moka_callers.specs.Running.{PollsAreSteps, RepliesAreSteps, RunSplits, RunsJoin};
 
 /// A run on a list of events is a run on its beginning, and one on the rest.
 pub fn run_splits<K: Eq, V, E>()
@@ -16,4 +16,10 @@ pub fn runs_join<K: Eq, V, E>()
 /// the event made, from a state that the run reached.
 pub fn replies_are_steps<K: Eq, V, E>()
     ensures step { RepliesAreSteps K V E K.eq }
+{}
+
+/// A poll of a live call is a run of steps of that call: all but the last leave it going, and the
+/// last replies what the poll does.
+pub fn polls_are_steps<K: Eq, V, E>()
+    ensures steps { PollsAreSteps K V E K.eq }
 {}

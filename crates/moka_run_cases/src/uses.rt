@@ -1,8 +1,9 @@
-//! Callers of `moka_uses`: that memory suffices, and that what was stored is found, which no clause
-//! says.
+//! Callers of `moka_uses`: that memory suffices, which no clause says.
 
 use bytes::{ByteStr, Bytes};
-use moka_uses::{Page, Request, Shared, read_back, read_back_shared, read_back_text};
+use moka_uses::{
+    Page, Request, Shared, read_back, read_back_shared, read_back_text, read_replaced,
+};
 use std::test::Fail;
 
 #[test]
@@ -35,5 +36,12 @@ fn a_struct_and_an_enum_are_taken(rt: HostRuntime) -> Result<(), Fail> {
     let page = Page::MovedTo(ByteStr::from_static("home.html"));
     let found = read_back(rt.alloc(), request, page)?;
     assert!(rt; matches!(&found, Some(Page::MovedTo(name)) if name.as_str() == "home.html"));
+    Ok(())
+}
+
+#[test]
+fn a_value_in_the_place_of_another_is_found(rt: HostRuntime) -> Result<(), Fail> {
+    let found = read_replaced(rt.alloc(), 7u16, 5u32, 9)?;
+    assert_eq!(rt; found, Some(9));
     Ok(())
 }

@@ -1,1 +1,4 @@
 pub mod TwoRuns
+pub mod Listened
+pub mod ReadAgain
+pub mod TwoValues

@@ -4,9 +4,11 @@
 
 mod callers;
 mod reading;
+mod replacing;
 mod types;
 
 pub use callers::{read_back_shared, read_back_text};
 pub use moka_values::Shared;
 pub use reading::{NoTests, read_back};
+pub use replacing::read_replaced;
 pub use types::{Page, Request, is_taken, taken_types};

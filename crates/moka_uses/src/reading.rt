@@ -6,7 +6,7 @@ ghost use Rattle.moka_hist.specs.declared.replies.Reply.{Reply};
 ghost use Rattle.moka_machine.specs.Machine.{MachineIs, IsValid};
 ghost use Rattle.moka_machine.specs.TheTable.{the_division};
 ghost use Rattle.moka_run.specs.Running.{Answers};
-ghost use Rattle.moka_uses.specs.ReadBack.{IsReadBack, found_in, log_size, looking, no_rules, no_tests, no_tests_handed, storing};
+ghost use Rattle.moka_uses.specs.ReadBack.{IsReadBack, found_in, log_size, looking, no_tests, no_tests_handed, storing};
 
 use moka_hist::{Answer, Event, Reply, Rules, Start, Tests};
 use moka_run::{Machine, Report, run};
@@ -47,7 +47,7 @@ impl<K, V> Tests<K, V> for NoTests {
 }
 
 /// Runs the events, and tells want of memory alone.
-fn run_all<K: Eq + Hash + Exact, V: Exact>(
+pub(crate) fn run_all<K: Eq + Hash + Exact, V: Exact>(
     alloc: Global,
     cache: &mut Machine<K, V, u16, NoTests>,
     events: &[Event<K, V, u16>],
@@ -85,7 +85,7 @@ fn found_by_reply<K, V: Exact>(reply: &Reply<K, V, u16>) -> Result<Option<V>, Al
 }
 
 /// A copy of the value that the last of two replies found.
-fn found<K, V: Exact>(replies: &[Reply<K, V, u16>]) -> Result<Option<V>, AllocError>
+pub(crate) fn found<K, V: Exact>(replies: &[Reply<K, V, u16>]) -> Result<Option<V>, AllocError>
     requires two { length replies.now ≡ 2 }
     ensures { IfOk result (λ found. (call : Reply K V ℕ) × (last : Reply K V ℕ)
         × (replies.now ≡ call ∷ last ∷ []) × (found ≡ found_in last)) }
@@ -119,15 +119,16 @@ fn looking<K: Drop, V: Drop>(alloc: Global, key: K) -> Result<Vec<Event<K, V, u1
     Ok(events)
 }
 
-/// Builds a cache without rules and tests.
-fn build<K: Eq + Hash + Exact, V: Exact>(
+/// Builds a cache of these rules, without tests.
+pub(crate) fn build<K: Eq + Hash + Exact, V: Exact>(
     alloc: Global,
+    rules: Rules,
 ) -> Result<Machine<K, V, u16, NoTests>, AllocError>
     ensures fresh { IfOk result (λ cache. MachineIs K.eq no_tests cache
-        (fresh K V ℕ (the_division K) no_rules log_size no_tests_handed)) }
+        (fresh K V ℕ (the_division K) rules log_size no_tests_handed)) }
     ensures valid { IfOk result (λ cache. IsValid K.eq no_tests cache) }
 {
-    match Machine::build(alloc, RULES, LOG, 0, NoTests) {
+    match Machine::build(alloc, rules, LOG, 0, NoTests) {
         Ok(cache) => Ok(cache),
         Err(_) => Err(AllocError),
     }
@@ -148,7 +149,7 @@ pub fn read_back<K: Eq + Hash + Exact, V: Exact>(
     moka_small::poll_is_polled::<K, V, u16>();
     let looks = looking(alloc, key.clone()?)?;
     let stores = storing(alloc, key, value)?;
-    let mut cache = build(alloc)?;
+    let mut cache = build(alloc, RULES)?;
     let Ok(_) = run_all(alloc, &mut cache, &stores) else {
         drop(cache);
         return Err(AllocError);
