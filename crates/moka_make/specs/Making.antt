@@ -28,6 +28,18 @@ pub record MakesFront (words : List (String Global)) (old new : Option (List ℕ
   pub within : count ≤ length text
   pub writes : Extends old (take count text) new
 
+-- Two sinks were written one text, after what they were written before, as far as they tell.
+pub record AreWrittenOne (old new old' new' : Option (List ℕ)) : Type 0 where
+  pub text : List ℕ
+  pub first : Extends old text new
+  pub second : Extends old' text new'
+
+-- two makes of the same words that are done write one text
+abbrev pub MakesWriteOne : Type 0
+MakesWriteOne =
+    (words : List (String Global)) (old new old' new' : Option (List ℕ))
+    → Makes words old new → Makes words old' new' → AreWrittenOne old new old' new'
+
 -- how a make may end
 abbrev pub IsMakeEnd : Status → Type 0
 IsMakeEnd status.Done = Unit {0}

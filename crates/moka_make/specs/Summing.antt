@@ -91,3 +91,8 @@ pub record IsSummaryText (turns seed : ℕ) (text : List ℕ) : Type 0 where
   pub summary : Summary
   pub sums : IsSummary turns seed summary
   pub is : text ≡ summary_text summary
+
+-- a workload comes to one summary
+abbrev pub WorkloadsComeToOne : Type 0
+WorkloadsComeToOne =
+    (turns seed : ℕ) (a b : Summary) → IsSummary turns seed a → IsSummary turns seed b → a ≡ b

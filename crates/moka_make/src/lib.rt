@@ -13,7 +13,7 @@ mod summing;
 mod tests;
 mod words;
 
-pub use laws::{made_as_scheduled, words_ask_for_one};
+pub use laws::{made_as_scheduled, makes_write_one, words_ask_for_one, workloads_come_to_one};
 pub use making::make;
 pub use moka_lines::Status;
 pub use words::{Wanted, wanted_in};

@@ -10,7 +10,7 @@ use moka_ends::{ReadSource, WriteSink};
 use moka_gateway_run::gateway;
 use moka_keepers::PlainKeeper;
 use moka_lines::Status;
-use moka_make::make;
+use moka_make::{make, makes_write_one};
 use moka_memo_run::memo;
 use moka_run::play;
 use std::collections::HashMap;
@@ -71,7 +71,7 @@ fn first_word(words: &[String]) -> &str {
 }
 
 /// Runs the program of the first word from standard input to standard output: a play, unless it is
-/// one of the others.
+/// one of the others. Two makes of the same words write the same.
 fn run_standard(rt: &HostRuntime, words: &[String]) -> Status {
     let alloc = rt.alloc();
     let mut source = ReadSource::new(rt.stdin());
@@ -81,7 +81,10 @@ fn run_standard(rt: &HostRuntime, words: &[String]) -> Status {
             let mut keeper = PlainKeeper::new(HashMap::new(alloc));
             behind(alloc, words, &mut source, &mut sink, &mut keeper)
         }
-        "make" => make(alloc, words, &mut source, &mut sink),
+        "make" => {
+            makes_write_one();
+            make(alloc, words, &mut source, &mut sink)
+        }
         "memo" => memo(alloc, words, &mut source, &mut sink),
         "gateway" => gateway(alloc, words, &mut source, &mut sink),
         _ => play(alloc, words, &mut source, &mut sink),

@@ -5,6 +5,7 @@ ghost use Rattle.moka_hist.specs.State.{State};
 ghost use Rattle.moka_hist.specs.Run.{IsReached};
 ghost use Rattle.moka_laws.specs.Laws.{LawsOfReached};
 ghost use Rattle.moka_callers.specs.Laws.{LawsForCallers};
+ghost use Rattle.moka_same.specs.Determined.{RunsAreDetermined};
 ghost use Rattle.moka_hist.specs.declared.events.Told.{Told};
 ghost use Rattle.moka_machine.specs.Machine.{IsValid, MachineIs, ServesEvent, Stops};
 ghost use Rattle.moka_machine.specs.WantOfMemory.{MayStopIn};
@@ -34,7 +35,8 @@ use std::hash::Hash;
 ///
 /// Of every state that a run can reach, all laws of `moka_laws` hold: `laws` is their record, with a
 /// field for each. `callers` is that of `moka_callers`: what you conclude of this run by its events
-/// and its replies.
+/// and its replies. `determined` says that any two runs on the same events reply the same, where no
+/// walk is live or starts and no call is stepped singly.
 pub fn run<K: Eq + Hash + Exact, V: Exact, E: Exact, T: Tests<K, V> + Drop>(
     alloc: Global,
     cache: &mut Machine<K, V, E, T>,
@@ -54,9 +56,11 @@ pub fn run<K: Eq + Hash + Exact, V: Exact, E: Exact, T: Tests<K, V> + Drop>(
     // of every state that a run can reach, not of this run alone
     ensures laws { LawsOfReached K V E K.eq }
     ensures callers { LawsForCallers K V E K.eq }
+    ensures determined { RunsAreDetermined K V E K.eq }
 {
     moka_laws::laws_of_reached::<K, V, E>();
     moka_callers::laws_for_callers::<K, V, E>();
+    moka_same::runs_are_determined::<K, V, E>();
     let replies = run_events(alloc, cache, events)?;
     let replies = ReplyList::from_vec(replies);
     match list_all(alloc, cache) {
