@@ -15,17 +15,21 @@ use Rattle.moka_pairs.specs.Pairs.{pair_at}
 use Rattle.moka_history.specs.declared.note.Note.{Note}
 use Rattle.moka_history.specs.declared.note.Note.TheVariants.{Changed}
 use Rattle.moka_history.specs.Entries.{Entry}
-use Rattle.moka_history.specs.States.{Ticket, words_in}
+use Rattle.moka_history.specs.States.{Ticket, after, memory_of, unopened, words_in}
+use Rattle.moka_words.specs.Effect.{SetsWord}
+use Rattle.std.proofs.lemmas.Option.{slice_get_within}
+use Rattle.moka_history.proofs.Cells.{changed_sets}
 use Rattle.moka_history.specs.Logs.{entries_of, entry_of, entry_with, state_of}
 use Rattle.moka_history.specs.Cells.{cells_of, number_of}
 use Rattle.moka_history.specs.Moving.{HoldsThere}
 use Rattle.moka_history.specs.Rules.{IsFront, made_on}
 use Rattle.moka_history.specs.Keeping.{Comes, IsDivided, IsSmall}
-use Rattle.moka_history.proofs.Folds.{entries_begin}
+use Rattle.moka_history.proofs.Folds.{entries_begin, state_more}
 use Rattle.moka_history.proofs.Fronts.{cells_now, entry_between, good_now, lasts_now, segments_are, words_have_pairs}
 use Rattle.moka_history.proofs.Lists.{map_more, one_item, prefix_through, times_more}
 use Rattle.moka_history.proofs.Numbers.{numbers_tell}
 use Rattle.moka_shared.specs.declared.asked.Exchange.{Exchange}
+use Rattle.moka_shared.specs.Accesses.{Exchanged}
 use Rattle.moka_shared.specs.Asks.{exchange_note}
 use Rattle.moka_shared.specs.Changes.{Adds, CanChange}
 use Rattle.moka_shared.specs.Probing.{GoesOn, HasProbed, IsLogOf}
@@ -150,6 +154,24 @@ module _ {K V S : Type 0} (eq : K → K → Bool) (hash : S → K → ℕ) (plac
             is_log = record { kept = spends.writes.kept; opened = opened_more t.segments t.size t.hasher log new x.opened begins; some = x.some };
           }
 
+      -- it sets one word
+      pub exchanged : Exchanged (own_at place t key) index from to log new
+      exchanged =
+          let note_is : exchange_note asked ≡ Changed ticket (suc (own_at place t key)) index to =
+          ap (λ a. Changed ticket a at to) array_is ∙ ap (λ i. Changed ticket (suc (own_at place t key)) i to) at_is in
+          let placed = (good_now eq hash place m (kept_as eq hash place t m m_log)).owned.places in
+          let row = row_is eq hash place t m m_log (own_at place t key) index below inside in
+          let within = slice_get_within ((state_of m).arrays (suc (own_at place t key))) index bucket row in
+          let state_is : state_of new ≡ after {S = S} (state_of m) (exchange_note asked) = ap state_of spends.writes.more ∙ state_more unopened m (exchange_note asked) in
+          record {
+            found = m;
+            begins = spends.writes.begins;
+            goes_on = (exchange_note asked ∷ [], sym spends.writes.more);
+            there = word_is;
+            sets = subst (λ s. SetsWord (suc (own_at place t key)) index to (memory_of (state_of m) (own_at place t key)) (memory_of s (own_at place t key))) (sym state_is)
+                (changed_sets S (state_of m) placed ticket (suc (own_at place t key)) index to within (exchange_note asked) note_is (own_at place t key)).0;
+          }
+
       between : IsPrefix (entries_of log) (entries_of m)
       between = entries_begin log m spends.writes.begins
 
@@ -178,6 +200,12 @@ module _ {K V S : Type 0} (eq : K → K → Bool) (hash : S → K → ℕ) (plac
       differs same = other (
           found_is eq hash place t log new x (own_at place t key) index below inside found seen
           ∙ (ap number_of (same ∙ can.ends.there) ∙ sym from_is)
+          )
+
+      pub met_other : (word : Word) → word_at (words_in (state_of new) (suc (own_at place t key))) index ≡ word → word ≢ from
+      met_other word there_is_word same = other (
+          found_is eq hash place t log new x (own_at place t key) index below inside found seen
+          ∙ (ap number_of (there_is_word ∙ same) ∙ sym from_is)
           )
 
       pub met_entry : (y : Entry K V) × (slice_get (entries_of new) (length (entries_of front)) ≡ Some y) × (y.ticket ≢ ticket)

@@ -18,3 +18,5 @@ pub mod Exchanging
 pub mod Putting
 pub mod Since
 pub mod Filled
+pub mod Courses
+pub mod Turned

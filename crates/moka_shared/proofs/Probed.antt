@@ -2,6 +2,7 @@
 use Rattle.std.proofs.Common.{◌≡◌, ℕ, ◌+◌, ◌^◌, ◌<◌, ◌≤◌, ◌==◌, Bool, true, false, List, length, Option, Some, None, suc, refl, sym, ap, subst, ◌∙◌, arith}
 use Rattle.std.proofs.lemmas.Bool.{eq-eqb}
 use Rattle.std.specs.Option.{option_map_or}
+use denote.Ref.{Bor}
 use mathlib.Core.List.{IsPrefix}
 use Rattle.moka_words.specs.declared.words.Word.{Word}
 use Rattle.moka_words.specs.declared.words.Word.TheVariants.{Unset, Empty, Live, Tomb, SealedEmpty, SealedLive, SealedTomb}
@@ -29,7 +30,7 @@ use Rattle.moka_history.proofs.Fronts.{fits_more, fits_still, found_now, good_no
 use Rattle.moka_history.proofs.Named.{array_is}
 use Rattle.moka_history.proofs.Lists.{one_item}
 use Rattle.moka_shared.specs.declared.probe.Met.TheVariants as met
-use Rattle.moka_shared.specs.Meeting.{IsOpenBy, Meets, Tells}
+use Rattle.moka_shared.specs.Meeting.{IsOpenBy, IsOthers, Meets, Tells}
 use Rattle.moka_shared.specs.Probing.{EndsAt, HasProbed, IsLogOf, Loads, own_keys, own_words}
 use Rattle.moka_shared.specs.Tables.{Table}
 use Rattle.moka_shared.proofs.Loading.{kept_as, opened_some}
@@ -161,17 +162,17 @@ module _ {K V S : Type 0} (eq : K → K → Bool) (hash : S → K → ℕ) (plac
     still : HasProbed eq place t key h log passed
     still = probed_lasts front log y loads.goes_on.is_log loads.goes_on.begins passed inside probed
 
-    there : word_at (own_words place t key log) (bucket_at t.size h passed) ≡ word
+    pub there : word_at (own_words place t key log) (bucket_at t.size h passed) ≡ word
     there =
         ap (λ j. word_at (words_in (state_of log) (suc j)) (bucket_at t.size h passed)) (sym is)
         ∙ (ap (λ k. word_at (words_in (state_of log) (suc segment)) k) (sym at) ∙ loads.there)
 
     -- it is another key's, and is passed
-    pub goes_past : Meets (eq key) (state_of log).pairs word met.Other → HasProbed eq place t key h log (passed + 1)
+    pub goes_past : IsOthers (eq key) (state_of log).pairs word → HasProbed eq place t key h log (passed + 1)
     goes_past m =
         let more : suc passed ≡ passed + 1 = omega arith in
         subst (λ n. HasProbed eq place t key h log n) more (probed_more log loads.goes_on.is_log passed still m.0 (ap node_of there ∙ m.1) m.2)
 
     -- the probe ends there
-    pub stops_open : Meets (eq key) (state_of log).pairs word met.Open → EndsAt eq place t key h log passed word
-    stops_open m = ends_at log loads.goes_on.is_log passed word still inside there m
+    pub stops_open : {N : Type 0} (shown : Option (Bor N)) → Meets (eq key) (state_of log).pairs word (met.Open shown) → EndsAt eq place t key h log passed word
+    stops_open shown m = ends_at log loads.goes_on.is_log passed word still inside there m

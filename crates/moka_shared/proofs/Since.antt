@@ -19,7 +19,7 @@ use Rattle.moka_shared.specs.declared.answers.TryChange.TheVariants as change
 use Rattle.moka_shared.specs.declared.seat.Seat.{Seat}
 use Rattle.moka_shared.specs.declared.standing.Standing.{Standing}
 use Rattle.moka_shared.specs.declared.standing.Standing.TheVariants as standing
-use Rattle.moka_shelf.specs.declared.once.Hidden.{Hidden}
+use Rattle.moka_shelf.specs.Looks.{Hiding}
 use Rattle.moka_shared.specs.Changes.{Adds, AreMade, HereSo, IsCopy, IsHere, IsMetBy, IsReason, Makes, MakesNone, Puts, PutsOn, Stands, entry_for, entry_put}
 use Rattle.moka_shared.specs.Inserts.{Inserts, StandsSo}
 use Rattle.moka_shared.specs.Looks.{IsNodeHidden}
@@ -56,10 +56,10 @@ adds_since e old mid new begins adds =
       once = adds.once;
     }
 
-module _ {K V S H : Type 0} (eq : K → K → Bool) (place : S → ℕ → K → ℕ) (t : Table S) (h : ℕ)
-    (old mid new : Seat K V S H) (begins : IsPrefix old.front.log mid.front.log) (mine : mid.mine ≡ old.mine) where
+module _ {K V S H D : Type 0} (eq : K → K → Bool) (place : S → ℕ → K → ℕ) (looked : H → Hiding) (t : Table S) (h : ℕ)
+    (old mid new : Seat K V S H D) (begins : IsPrefix old.front.log mid.front.log) (mine : mid.mine ≡ old.mine) where
   -- what holds of what had been seen later holds of what had been seen before
-  module _ (rises : (state_of old.front.log).last ≤ (state_of mid.front.log).last) (hidden : mid.hidden ≡ old.hidden) (drawn : mid.drawn ≡ old.drawn) where
+  module _ (rises : (state_of old.front.log).last ≤ (state_of mid.front.log).last) (hidden : looked mid.hidden ≡ looked old.hidden) (drawn : mid.drawn ≡ old.drawn) where
     pub none_since : MakesNone mid new → MakesNone old new
     none_since r = record {
       mine = r.mine ∙ mine;
@@ -85,9 +85,9 @@ module _ {K V S H : Type 0} (eq : K → K → Bool) (place : S → ℕ → K →
           mine = p.mine ∙ ap (λ m. p.ticket ∷ m.numbers) mine;
         }
 
-    pub reason_since : (m : Missed) → IsReason eq place t h mid new m → IsReason eq place t h old new m
+    pub reason_since : (m : Missed) → IsReason eq place looked t h mid new m → IsReason eq place looked t h old new m
     reason_since (missed.Sealed w a i) r = (r.0, r.1, r.2 ∙ hidden)
-    reason_since (missed.NodeHidden n) r = subst (λ x. IsNodeHidden t h new.front.log x new.hidden n) hidden r
+    reason_since (missed.NodeHidden n) r = subst (λ x. IsNodeHidden t h new.front.log x (looked new.hidden) n) hidden r
     reason_since (missed.ArrayHidden a) r = absurd r
     reason_since (missed.Lost w) r =
         let late = r.late in
@@ -107,18 +107,18 @@ module _ {K V S H : Type 0} (eq : K → K → Bool) (place : S → ℕ → K →
     reason_since missed.Spent r = r
 
     pub puts_since : (A B : Type 0) (P Q : V → Type 0) → (A → B) → ((v : V) → P v → Q v) → (r : Put V) →
-        Puts eq place t h mid new A P r → Puts eq place t h old new B Q r
+        Puts eq place looked t h mid new A P r → Puts eq place looked t h old new B Q r
     puts_since A B P Q done there put.Done p = done p
     puts_since A B P Q done there (put.There found) p = ((p.0.0 ∙ mine, p.0.1 ∙ drawn), there found p.1)
     puts_since A B P Q done there (put.Missed m) p = (none_since p.0, reason_since m p.1)
     puts_since A B P Q done there put.Memory p = none_since p
 
-    pub inserts_since : (key : K) (value : V) (r : Put V) → Inserts eq place t h key value mid new r → Inserts eq place t h key value old new r
+    pub inserts_since : (key : K) (value : V) (r : Put V) → Inserts eq place looked t h key value mid new r → Inserts eq place looked t h key value old new r
     inserts_since key value r p = puts_since (Makes mid new (λ n. entry_put n key value None)) (Makes old new (λ n. entry_put n key value None))
         (λ found. Some found ≡ option_map (λ p. p.1) (map_after eq (entries_of new.front.log) key))
         (λ found. Some found ≡ option_map (λ p. p.1) (map_after eq (entries_of new.front.log) key)) (makes_since (λ n. entry_put n key value None)) (λ v q. q) r p
 
-    pub changes_since : (key : K) (to : Option V) (r : TryChange V) → Changes eq place t h key to mid new r → Changes eq place t h key to old new r
+    pub changes_since : (key : K) (to : Option V) (r : TryChange V) → Changes eq place looked t h key to mid new r → Changes eq place looked t h key to old new r
     changes_since key to (change.Changed former) p = record {
       pair = p.pair;
       same = p.same;
@@ -134,7 +134,7 @@ module _ {K V S H : Type 0} (eq : K → K → Bool) (place : S → ℕ → K →
     in_vain : new.mine ≡ mid.mine → made_on ticket (entries_of new.front.log) ≡ 0 → MakesNone old new
     in_vain same none = record { mine = same ∙ mine; none = inr (record { ticket = ticket; late = late; drawn = drawn; none = none }) }
 
-    met_since : (m : Missed) → IsMetBy t h passed ticket old.front.log new.front.log m → IsReason eq place t h old new m
+    met_since : (m : Missed) → IsMetBy t h passed ticket old.front.log new.front.log m → IsReason eq place looked t h old new m
     met_since (missed.Sealed w a i) r = absurd r
     met_since (missed.NodeHidden n) r = absurd r
     met_since (missed.ArrayHidden a) r = absurd r
@@ -151,7 +151,7 @@ module _ {K V S H : Type 0} (eq : K → K → Bool) (place : S → ℕ → K →
     met_since (missed.NoFree n) r = absurd r
     met_since missed.Spent r = absurd r
 
-    pub puts_drawn : (r : Put V) → PutsOn t h passed ticket (e ticket) old.front.log mid new r → Puts eq place t h old new (Makes old new e) (λ v. ⊥) r
+    pub puts_drawn : (r : Put V) → PutsOn t h passed ticket (e ticket) old.front.log mid new r → Puts eq place looked t h old new (Makes old new e) (λ v. ⊥) r
     puts_drawn put.Done p = record {
       ticket = ticket;
       late = late;
@@ -163,17 +163,17 @@ module _ {K V S H : Type 0} (eq : K → K → Bool) (place : S → ℕ → K →
     puts_drawn (put.Missed m) p = (in_vain p.0 p.1, met_since m p.2)
     puts_drawn put.Memory p = in_vain p.0 p.1
 
-module _ {K V S H : Type 0} (eq : K → K → Bool) (place : S → ℕ → K → ℕ) (t : Table S) (h : ℕ) (old new : Seat K V S H) where
+module _ {K V S H D : Type 0} (eq : K → K → Bool) (place : S → ℕ → K → ℕ) (looked : H → Hiding) (t : Table S) (h : ℕ) (old new : Seat K V S H D) where
   -- the same, said otherwise
   pub puts_as : (A B : Type 0) (P Q : V → Type 0) → (A → B) → ((v : V) → P v → Q v) → (r : Put V) →
-      Puts eq place t h old new A P r → Puts eq place t h old new B Q r
+      Puts eq place looked t h old new A P r → Puts eq place looked t h old new B Q r
   puts_as A B P Q done there put.Done p = done p
   puts_as A B P Q done there (put.There found) p = (p.0, there found p.1)
   puts_as A B P Q done there (put.Missed m) p = p
   puts_as A B P Q done there put.Memory p = p
 
   -- nothing stands there
-  pub stands_none : (A : Type 0) (B : V → Type 0) (r : Put V) → Puts eq place t h old new A (λ v. ⊥) r → StandsSo B r
+  pub stands_none : (A : Type 0) (B : V → Type 0) (r : Put V) → Puts eq place looked t h old new A (λ v. ⊥) r → StandsSo B r
   stands_none A B put.Done p = tt
   stands_none A B (put.There found) p = absurd p.1
   stands_none A B (put.Missed m) p = tt
@@ -182,17 +182,15 @@ module _ {K V S H : Type 0} (eq : K → K → Bool) (place : S → ℕ → K →
 -- what is so of a copy
 pub copy_so : {V : Type 0} (holds : V → Type 0) (v : V) → holds v → (r : Standing V) → IsCopy v r → HereSo holds r
 copy_so holds v so (standing.Here copy) is = subst holds (sym is) so
-copy_so holds v so standing.Hidden is = tt
 copy_so holds v so standing.Memory is = tt
 
-pub copy_stands : {K V S : Type 0} (eq : K → K → Bool) (t : Table S) (h : ℕ) (key : K) (number : ℕ) (log : List (Note K V S)) (old new : Hidden) (v : V) →
-    IsHere eq key number log v → new ≡ old → (r : Standing V) → IsCopy v r → Stands eq t h key number log old new r
-copy_stands eq t h key number log old new v here same (standing.Here copy) is = (subst (IsHere eq key number log) (sym is) here, same)
-copy_stands eq t h key number log old new v here same standing.Hidden is = absurd is
-copy_stands eq t h key number log old new v here same standing.Memory is = tt
+pub copy_stands : {K V S : Type 0} (eq : K → K → Bool) (key : K) (number : ℕ) (log : List (Note K V S)) (v : V) →
+    IsHere eq key number log v → (r : Standing V) → IsCopy v r → Stands eq key number log r
+copy_stands eq key number log v here (standing.Here copy) is = subst (IsHere eq key number log) (sym is) here
+copy_stands eq key number log v here standing.Memory is = tt
 
-module _ {K V S H : Type 0} (eq : K → K → Bool) (hash : S → K → ℕ) (place : S → ℕ → K → ℕ) (t : Table S) (h : ℕ)
-    (old new : Seat K V S H) (begins : IsPrefix old.front.log new.front.log) (kept : IsKept eq hash place new.front.log)
+module _ {K V S H D : Type 0} (eq : K → K → Bool) (hash : S → K → ℕ) (place : S → ℕ → K → ℕ) (looked : H → Hiding) (t : Table S) (h : ℕ)
+    (old new : Seat K V S H D) (begins : IsPrefix old.front.log new.front.log) (kept : IsKept eq hash place new.front.log)
     (made : AreMade old.mine.numbers (entries_of old.front.log)) where
   still : AreMade old.mine.numbers (entries_of new.front.log)
   still = made_lasts eq hash place new.front.log kept old.front.log begins old.mine.numbers made
@@ -205,14 +203,14 @@ module _ {K V S H : Type 0} (eq : K → K → Bool) (hash : S → K → ℕ) (pl
       (subst (λ n. made_on n (entries_of new.front.log) ≡ 1) (on p.ticket) p.adds.once, still)
 
   -- each of the caller's tickets has one entry still
-  pub puts_made : (e : ℕ → Entry K V) → ((n : ℕ) → (e n).ticket ≡ n) → (P : V → Type 0) (r : Put V) → Puts eq place t h old new (Makes old new e) P r →
+  pub puts_made : (e : ℕ → Entry K V) → ((n : ℕ) → (e n).ticket ≡ n) → (P : V → Type 0) (r : Put V) → Puts eq place looked t h old new (Makes old new e) P r →
       AreMade new.mine.numbers (entries_of new.front.log)
   puts_made e on P put.Done p = one_made e on p
   puts_made e on P (put.There found) p = same_made p.0.0
   puts_made e on P (put.Missed m) p = same_made p.0.mine
   puts_made e on P put.Memory p = same_made p.mine
 
-  pub inserts_made : (key : K) (value : V) (r : Put V) → Inserts eq place t h key value old new r → AreMade new.mine.numbers (entries_of new.front.log)
+  pub inserts_made : (key : K) (value : V) (r : Put V) → Inserts eq place looked t h key value old new r → AreMade new.mine.numbers (entries_of new.front.log)
   inserts_made key value r p =
       puts_made (λ n. entry_put n key value None) (λ n. refl) (λ found. Some found ≡ option_map (λ p. p.1) (map_after eq (entries_of new.front.log) key)) r p
 
@@ -220,7 +218,7 @@ module _ {K V S H : Type 0} (eq : K → K → Bool) (hash : S → K → ℕ) (pl
   for_on key (Some v) pair n = refl
   for_on key None pair n = refl
 
-  pub changes_made : (key : K) (to : Option V) (r : TryChange V) → Changes eq place t h key to old new r →
+  pub changes_made : (key : K) (to : Option V) (r : TryChange V) → Changes eq place looked t h key to old new r →
       AreMade new.mine.numbers (entries_of new.front.log)
   changes_made key to (change.Changed former) p = one_made (λ n. entry_for n key to p.pair) (for_on key to p.pair) p.makes
   changes_made key to change.Absent p = same_made p.0.0

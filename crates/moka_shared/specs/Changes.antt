@@ -23,7 +23,7 @@ use Rattle.moka_shared.specs.declared.answers.Put.TheVariants as put
 use Rattle.moka_shared.specs.declared.seat.Seat.{Seat}
 use Rattle.moka_shared.specs.declared.standing.Standing.{Standing}
 use Rattle.moka_shared.specs.declared.standing.Standing.TheVariants as standing
-use Rattle.moka_shelf.specs.declared.once.Hidden.{Hidden}
+use Rattle.moka_shelf.specs.Looks.{Hiding}
 use Rattle.moka_shared.specs.Hashing.{segment_of}
 use Rattle.moka_shared.specs.Looks.{IsNodeHidden}
 use Rattle.moka_shared.specs.Meeting.{IsShut}
@@ -114,8 +114,8 @@ IsMetBy t hash passed ticket front new (missed.NoFree count) = ⊥
 IsMetBy t hash passed ticket front new missed.Spent = ⊥
 
 -- what became of a change on a ticket that was drawn
-abbrev pub PutsOn : {K V S H : Type 0} → (t : Table S) → (hash passed ticket : ℕ) → Entry K V →
-    (front : List (Note K V S)) → (old new : Seat K V S H) → Put V → Type 0
+abbrev pub PutsOn : {K V S H D : Type 0} → (t : Table S) → (hash passed ticket : ℕ) → Entry K V →
+    (front : List (Note K V S)) → (old new : Seat K V S H D) → Put V → Type 0
 PutsOn t hash passed ticket e front old new put.Done =
     Adds e old.front.log new.front.log × (new.mine.numbers ≡ ticket ∷ old.mine.numbers)
 PutsOn t hash passed ticket e front old new (put.There found) = ⊥
@@ -125,7 +125,7 @@ PutsOn t hash passed ticket e front old new (put.Missed missed) =
 PutsOn t hash passed ticket e front old new put.Memory =
     (new.mine ≡ old.mine) × (made_on ticket (entries_of new.front.log) ≡ 0)
 
-module _ {K V S H : Type 0} (old new : Seat K V S H) where
+module _ {K V S H D : Type 0} (old new : Seat K V S H D) where
   -- no ticket was drawn
   abbrev pub Stays : Type 0
   Stays = (new.mine ≡ old.mine) × (new.drawn ≡ old.drawn)
@@ -151,8 +151,9 @@ module _ {K V S H : Type 0} (old new : Seat K V S H) where
     pub drawn : new.drawn.numbers ≡ ticket ∷ old.drawn.numbers
     pub mine : new.mine.numbers ≡ ticket ∷ old.mine.numbers
 
-module _ {K V S H : Type 0} (eq : K → K → Bool) (place : S → ℕ → K → ℕ) (t : Table S)
-    (hash : ℕ) (old new : Seat K V S H) where
+-- `looked` is how many items were hidden from a look, and the last of them
+module _ {K V S H D : Type 0} (eq : K → K → Bool) (place : S → ℕ → K → ℕ) (looked : H → Hiding)
+    (t : Table S) (hash : ℕ) (old new : Seat K V S H D) where
   -- the exchange met this word: past what had been seen the history has an entry of another ticket
   -- than that of this call, which was drawn in it
   pub record IsLost (word : Word) : Type 0 where
@@ -168,9 +169,9 @@ module _ {K V S H : Type 0} (eq : K → K → Bool) (place : S → ℕ → K →
   abbrev pub IsReason : Missed → Type 0
   IsReason (missed.Sealed word array index) =
       (word_at (words_in (state_of new.front.log) array) index ≡ word) × IsShut word
-      × (new.hidden ≡ old.hidden)
+      × (looked new.hidden ≡ looked old.hidden)
   IsReason (missed.NodeHidden number) =
-      IsNodeHidden t hash new.front.log old.hidden new.hidden number
+      IsNodeHidden t hash new.front.log (looked old.hidden) (looked new.hidden) number
   IsReason (missed.ArrayHidden array) = ⊥
   IsReason (missed.Lost word) = IsLost word
   IsReason (missed.Ticket ticket) =
@@ -197,23 +198,18 @@ pub record IsHere {K V S : Type 0} (eq : K → K → Bool) (key : K) (number : �
   pub same : eq key pair.0 ≡ true
   pub value_is : value ≡ pair.1
 
--- what is known of the value of a node under which the key stands, and what became of the look
-abbrev pub Stands : {K V S : Type 0} → (K → K → Bool) → (t : Table S) → (hash : ℕ) → K →
-    (number : ℕ) → (log : List (Note K V S)) → (old new : Hidden) → Standing V → Type 0
-Stands eq t hash key number log old new (standing.Here value) =
-    IsHere eq key number log value × (new ≡ old)
-Stands eq t hash key number log old new standing.Hidden =
-    IsNodeHidden t hash log old new number
-Stands eq t hash key number log old new standing.Memory = Unit {0}
+-- what is known of the value of a node under which the key stands
+abbrev pub Stands : {K V S : Type 0} → (K → K → Bool) → K → (number : ℕ) →
+    (log : List (Note K V S)) → Standing V → Type 0
+Stands eq key number log (standing.Here value) = IsHere eq key number log value
+Stands eq key number log standing.Memory = Unit {0}
 
 -- it is a copy, or memory was wanting
 abbrev pub IsCopy : {V : Type 0} → V → Standing V → Type 0
 IsCopy value (standing.Here copy) = copy ≡ value
-IsCopy value standing.Hidden = ⊥
 IsCopy value standing.Memory = Unit {0}
 
 -- the fact holds of it
 abbrev pub HereSo : {V : Type 0} → (V → Type 0) → Standing V → Type 0
 HereSo holds (standing.Here value) = holds value
-HereSo holds standing.Hidden = Unit {0}
 HereSo holds standing.Memory = Unit {0}

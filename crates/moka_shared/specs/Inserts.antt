@@ -9,6 +9,7 @@ use Rattle.moka_shared.specs.declared.answers.TryInsert.{TryInsert}
 use Rattle.moka_shared.specs.declared.answers.TryInsert.TheVariants as insert
 use Rattle.moka_shared.specs.declared.seat.Seat.{Seat}
 use Rattle.moka_shared.specs.Changes.{Makes, Puts, entry_put}
+use Rattle.moka_shelf.specs.Looks.{Hiding}
 use Rattle.moka_shared.specs.Tables.{Table}
 
 -- the fact holds of the value that stands there already
@@ -24,11 +25,11 @@ IsPresentSo holds (insert.Present found key value) = holds found
 IsPresentSo holds (insert.Again missed key value) = Unit {0}
 IsPresentSo holds (insert.Memory key value) = Unit {0}
 
-module _ {K V S H : Type 0} (eq : K → K → Bool) (place : S → ℕ → K → ℕ) (t : Table S)
-    (hash : ℕ) (key : K) (value : V) (old new : Seat K V S H) where
+module _ {K V S H D : Type 0} (eq : K → K → Bool) (place : S → ℕ → K → ℕ) (looked : H → Hiding)
+    (t : Table S) (hash : ℕ) (key : K) (value : V) (old new : Seat K V S H D) where
   -- what became of a pair that was to be put where nothing stands
   abbrev pub Inserts : Put V → Type 0
-  Inserts r = Puts eq place t hash old new (Makes old new (λ n. entry_put n key value None))
+  Inserts r = Puts eq place looked t hash old new (Makes old new (λ n. entry_put n key value None))
       (λ found. Some found ≡ option_map (λ p. p.1) (map_after eq (entries_of new.front.log) key)) r
 
   -- what an insert answers

@@ -6,6 +6,7 @@ pub mod Nodes
 pub mod Meeting
 pub mod Probing
 pub mod Looks
+pub mod Accesses
 pub mod Changes
 pub mod Inserts
 pub mod Removals

@@ -4,7 +4,7 @@ use denote.Ref.{Bor}
 use Rattle.std.specs.Fn.{Mut, ComputesKey}
 use Rattle.std.specs.Option.{option_map}
 use Rattle.moka_words.specs.Words.{word_at}
-use Rattle.moka_shelf.specs.declared.once.Hidden.{Hidden}
+use Rattle.moka_shelf.specs.Looks.{Hiding}
 use Rattle.moka_history.specs.declared.note.Note.{Note}
 use Rattle.moka_history.specs.States.{words_in}
 use Rattle.moka_history.specs.Logs.{state_of}
@@ -27,12 +27,17 @@ abbrev pub Finds : {K V : Type 0} → Option (K × V) → TryGet V → Type 0
 Finds pair (get.Found value) = value ≡ option_map (λ p. p.1) pair
 Finds pair (get.Again missed) = Unit {0}
 
+-- it is no reason to look again
+abbrev pub IsFound : {V : Type 0} → TryGet V → Type 0
+IsFound (get.Found value) = Unit {0}
+IsFound (get.Again missed) = ⊥
+
 -- the fact holds of what was found
 abbrev pub IsSo : {V : Type 0} → (V → Type 0) → TryGet V → Type 0
 IsSo holds (get.Found value) = IfSome value holds
 IsSo holds (get.Again missed) = Unit {0}
 
-module _ {K V S : Type 0} (t : Table S) (hash : ℕ) (log : List (Note K V S)) (old new : Hidden)
+module _ {K V S : Type 0} (t : Table S) (hash : ℕ) (log : List (Note K V S)) (old new : Hiding)
   where
     -- The node was hidden from the look in this pass, as the last of all. A word that was read names
     -- it, and the history its pair.

@@ -12,12 +12,13 @@ use Rattle.moka_history.specs.States.{words_in}
 use Rattle.moka_history.specs.Logs.{state_of}
 use Rattle.moka_history.specs.Rules.{keys_of, IsKept, IsOpenedFor}
 use Rattle.moka_history.specs.Keeping.{IsSmall}
-use Rattle.moka_shelf.specs.declared.once.Hidden.{Hidden}
+use Rattle.moka_shelf.specs.Looks.{Hiding}
 use Rattle.moka_shared.specs.declared.probe.Ended.{Ended}
 use Rattle.moka_shared.specs.declared.probe.Ended.TheVariants as ended
 use Rattle.moka_shared.specs.Hashing.{segment_of}
-use Rattle.moka_shared.specs.Meeting.{Hides, IsShut}
-use Rattle.moka_shared.specs.Tables.{Table}
+use Rattle.moka_shared.specs.Meeting.{HasNode, Hides, IsShut}
+use Rattle.moka_shared.specs.Nodes.{NodeView}
+use Rattle.moka_shared.specs.Tables.{Table, names_of}
 
 module _ {K V S : Type 0} (eq : K → K → Bool) (hash : S → K → ℕ) (place : S → ℕ → K → ℕ)
     (t : Table S) where
@@ -63,8 +64,8 @@ module _ {K V S : Type 0} (eq : K → K → Bool) (place : S → ℕ → K → �
     pub opens : IsOpen (own_by eq (own_keys place t key log) key) word
 
   -- what is known where it ended
-  abbrev pub Ends : Ended → Type 0
-  Ends (ended.At passed word) = EndsAt passed word
+  abbrev pub Ends : {N : Type 0} → Ended N → Type 0
+  Ends (ended.At passed word shown) = EndsAt passed word
   Ends ended.Full = HasProbed t.size
   Ends (ended.Hidden number) = Unit {0}
   Ends (ended.Sealed passed word) = Unit {0}
@@ -86,8 +87,9 @@ pub record ReadsNode {K V S : Type 0} (t : Table S) (hash number : ℕ) (log : L
 
 -- what was read where a probe ended, and what became of the look
 abbrev pub StopsAt : {K V S : Type 0} → (t : Table S) → (hash : ℕ) → (log : List (Note K V S)) →
-    (old new : Hidden) → Ended → Type 0
-StopsAt t hash log old new (ended.At passed word) = ReadsAt t hash passed word log × (new ≡ old)
+    (old new : Hiding) → Ended (NodeView K V S) → Type 0
+StopsAt t hash log old new (ended.At passed word shown) =
+    ReadsAt t hash passed word log × (new ≡ old) × HasNode (names_of t.book) word shown
 StopsAt t hash log old new ended.Full = new ≡ old
 StopsAt t hash log old new (ended.Hidden n) = ReadsNode t hash n log × Hides n old new
 StopsAt t hash log old new (ended.Sealed passed word) =

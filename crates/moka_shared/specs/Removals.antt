@@ -8,6 +8,7 @@ use Rattle.moka_shared.specs.declared.answers.TryChange.{TryChange}
 use Rattle.moka_shared.specs.declared.answers.TryChange.TheVariants as change
 use Rattle.moka_shared.specs.declared.seat.Seat.{Seat}
 use Rattle.moka_shared.specs.Changes.{IsReason, Makes, MakesNone, Stays, entry_for}
+use Rattle.moka_shelf.specs.Looks.{Hiding}
 use Rattle.moka_shared.specs.Tables.{Table}
 
 -- the value that is to be put; None is a removal
@@ -21,8 +22,8 @@ IsTakenSo holds change.Absent = Unit {0}
 IsTakenSo holds (change.Again missed) = Unit {0}
 IsTakenSo holds change.Memory = Unit {0}
 
-module _ {K V S H : Type 0} (eq : K → K → Bool) (key : K) (put : Option V)
-    (old new : Seat K V S H) where
+module _ {K V S H D : Type 0} (eq : K → K → Bool) (key : K) (put : Option V)
+    (old new : Seat K V S H D) where
   -- In place of a pair of an equal key, which had this value, another value was put, or none, under a
   -- ticket that was drawn in this call, and is the caller's.
   pub record Replaces (former : V) : Type 0 where
@@ -31,11 +32,11 @@ module _ {K V S H : Type 0} (eq : K → K → Bool) (key : K) (put : Option V)
     pub value_is : former ≡ pair.1
     pub makes : Makes old new (λ n. entry_for n key put pair)
 
-module _ {K V S H : Type 0} (eq : K → K → Bool) (place : S → ℕ → K → ℕ) (t : Table S)
-    (hash : ℕ) (key : K) (put : Option V) (old new : Seat K V S H) where
+module _ {K V S H D : Type 0} (eq : K → K → Bool) (place : S → ℕ → K → ℕ) (looked : H → Hiding)
+    (t : Table S) (hash : ℕ) (key : K) (put : Option V) (old new : Seat K V S H D) where
   -- what a change answers
   abbrev pub Changes : TryChange V → Type 0
   Changes (change.Changed former) = Replaces eq key put old new former
   Changes change.Absent = Stays old new × (map_after eq (entries_of new.front.log) key ≡ None)
-  Changes (change.Again missed) = MakesNone old new × IsReason eq place t hash old new missed
+  Changes (change.Again missed) = MakesNone old new × IsReason eq place looked t hash old new missed
   Changes change.Memory = MakesNone old new

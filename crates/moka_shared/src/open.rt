@@ -9,14 +9,16 @@ ghost use Rattle.moka_shared.specs.Tables.{AreBuckets, names_of};
 
 use crate::Fact;
 use crate::book::Law;
+use crate::node::Node;
 use crate::seat::Seat;
 use crate::table::HashMap;
 use boxcar::tag::{Names, Tag};
 use logbook::{Opening, Pens, Seen, Start, Word as Bucket};
 use moka_history::Note;
-use moka_shelf::{OnceShelf, Shelf};
+use moka_shelf::Shelf;
 use std::alloc::{AllocError, Global};
 use std::hash::{BuildHasher, Hash};
+use std::marker::PhantomData;
 
 /// How many segments a table has where none are asked for.
 const SEGMENTS: usize = 64;
@@ -103,7 +105,13 @@ fn make_buckets<K: Eq + Hash, V, S: BuildHasher>(
     Ok(buckets)
 }
 
-impl<K: Eq + Hash + Drop, V: Drop, S: BuildHasher + Drop, P: Fact<K, V>> HashMap<K, V, S, P> {
+impl<
+    K: Eq + Hash + Drop,
+    V: Drop,
+    S: BuildHasher + Drop,
+    P: Fact<K, V>,
+    L: Shelf<Node<K, V, S, P>> + Drop,
+> HashMap<K, V, S, P, L> {
     /// A table without pairs, of so many segments, rounded up to a power of two, with arrays for so
     /// many pairs. It is an error only where memory is wanting.
     pub fn with_num_segments_capacity_and_hasher(
@@ -169,7 +177,7 @@ impl<K: Eq + Hash + Drop, V: Drop, S: BuildHasher + Drop, P: Fact<K, V>> HashMap
         let door = Bucket::tracked(0, &mut pens.take());
         let buckets = make_buckets(alloc, &mut pens, count)?;
         let names = Tag::of::<Seen<Note<K, V, S>, u64, Law>, OfBook>(&start);
-        let shelf = OnceShelf::new(alloc, &names)?;
+        let shelf = L::for_table(alloc, &names)?;
         let Plan {
             segments,
             size,
@@ -183,6 +191,7 @@ impl<K: Eq + Hash + Drop, V: Drop, S: BuildHasher + Drop, P: Fact<K, V>> HashMap
             door,
             buckets,
             shelf,
+            of: PhantomData,
         })
     }
 
@@ -190,12 +199,18 @@ impl<K: Eq + Hash + Drop, V: Drop, S: BuildHasher + Drop, P: Fact<K, V>> HashMap
     pub fn close(self) {}
 }
 
-impl<K: Eq + Hash, V, S: BuildHasher, P: Fact<K, V>> HashMap<K, V, S, P> {
+impl<K: Eq + Hash, V, S: BuildHasher, P: Fact<K, V>, L: Shelf<Node<K, V, S, P>>> HashMap<
+    K,
+    V,
+    S,
+    P,
+    L,
+> {
     /// A seat that has seen the beginning alone. It takes no memory.
-    pub fn seat(&self) -> Seat<K, V, S>
+    pub fn seat(&self) -> Seat<K, V, S, L::Look>
         ensures seat { result.front.book ≡ self.now.book }
         ensures mine { (result.mine.numbers ≡ []) × (result.drawn.numbers ≡ []) }
-        ensures none { (entries_of result.front.log ≡ []) × (result.hidden.count ≡ 0) }
+        ensures none { (entries_of result.front.log ≡ []) × (L.hidden result.hidden ≡ 0) }
     {
         Seat {
             front: self.start.again(),
@@ -206,7 +221,7 @@ impl<K: Eq + Hash, V, S: BuildHasher, P: Fact<K, V>> HashMap<K, V, S, P> {
     }
 
     /// Each seat has seen then what either had seen, and one of them all that the other has.
-    pub fn meet(&self, a: &mut Seat<K, V, S>, b: &mut Seat<K, V, S>)
+    pub fn meet(&self, a: &mut Seat<K, V, S, L::Look>, b: &mut Seat<K, V, S, L::Look>)
         requires a { a.old.front.book ≡ self.now.book }
         requires b { b.old.front.book ≡ self.now.book }
         ensures a { a.new.front.book ≡ self.now.book }

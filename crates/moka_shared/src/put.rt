@@ -6,7 +6,9 @@ ghost use Rattle.moka_history.specs.Entries.{Entry};
 ghost use Rattle.moka_history.specs.Logs.{entries_of, state_of};
 ghost use Rattle.moka_history.specs.Rules.{made_on};
 ghost use Rattle.moka_history.specs.declared.note.Note.{Note};
-ghost use Rattle.moka_shared.specs.Hashing.{hash_in, place_in};
+ghost use Rattle.moka_words.specs.Arrays.{bucket_at};
+ghost use Rattle.moka_shared.specs.Accesses.{Exchanged, IsChosen, IsOther, PutsBy};
+ghost use Rattle.moka_shared.specs.Hashing.{hash_in, place_in, segment_of};
 ghost use Rattle.moka_shared.specs.Asks.{pair_of};
 ghost use Rattle.moka_shared.specs.Changes.{Adds, CanChange, IsDrawnFor, IsMet, IsUndrawn, PutsOn};
 ghost use Rattle.moka_shared.specs.Probing.{GoesOn, IsLogOf};
@@ -48,7 +50,13 @@ pub(crate) struct Ticketed {
     pen: Pen,
 }
 
-impl<K: Eq + Hash, V, S: BuildHasher, P: Fact<K, V>> HashMap<K, V, S, P> {
+impl<K: Eq + Hash, V, S: BuildHasher, P: Fact<K, V>, L: Shelf<Node<K, V, S, P>>> HashMap<
+    K,
+    V,
+    S,
+    P,
+    L,
+> {
     // How many tickets were drawn. The front becomes the log at the load.
     fn drawn(&self, front: &mut Seen<Note<K, V, S>, u64, Law>) -> u64
         requires book { front.old.book ≡ self.now.book }
@@ -100,7 +108,7 @@ impl<K: Eq + Hash, V, S: BuildHasher, P: Fact<K, V>> HashMap<K, V, S, P> {
     /// Sets the node of the ticket, and exchanges the word for its own.
     pub(crate) fn put_on(
         &self,
-        seat: &mut Seat<K, V, S>,
+        seat: &mut Seat<K, V, S, L::Look>,
         key: K,
         value: V,
         gap: &Gap,
@@ -128,6 +136,8 @@ impl<K: Eq + Hash, V, S: BuildHasher, P: Fact<K, V>> HashMap<K, V, S, P> {
         ensures goes_on { GoesOn K.eq (hash_in S.BuildHasher S.Hasher.Hasher K.hash_input)
             (place_in S.BuildHasher S.Hasher.Hasher K.hash_input) self.now
             seat.old.front.log seat.new.front.log }
+        ensures exchange { PutsBy self.now gap.now.hash gap.now.passed gap.now.word
+            seat.old.front.log seat.new.front.log result }
         ensures puts { (key : K) (e : Entry K V) (found : List (Note K V S)) → CanChange K.eq
             (hash_in S.BuildHasher S.Hasher.Hasher K.hash_input)
             (place_in S.BuildHasher S.Hasher.Hasher K.hash_input) self.now gap.now.hash
@@ -147,7 +157,7 @@ impl<K: Eq + Hash, V, S: BuildHasher, P: Fact<K, V>> HashMap<K, V, S, P> {
     /// Exchanges the word for this one, on the ticket.
     pub(crate) fn change_on(
         &self,
-        seat: &mut Seat<K, V, S>,
+        seat: &mut Seat<K, V, S, L::Look>,
         gap: &Gap,
         to: Word,
         drawn: Ticketed,
@@ -161,12 +171,15 @@ impl<K: Eq + Hash, V, S: BuildHasher, P: Fact<K, V>> HashMap<K, V, S, P> {
             (hash_in S.BuildHasher S.Hasher.Hasher K.hash_input)
             (place_in S.BuildHasher S.Hasher.Hasher K.hash_input) self.now gap.now.hash
             gap.now.passed gap.now.word to drawn.ticket key e found seat.old.front.log }
+        requires chosen { IsChosen gap.now.word to }
         ensures book { seat.new.front.book ≡ seat.old.front.book }
         ensures hidden { seat.new.hidden ≡ seat.old.hidden }
         ensures drawn { seat.new.drawn ≡ seat.old.drawn }
         ensures goes_on { GoesOn K.eq (hash_in S.BuildHasher S.Hasher.Hasher K.hash_input)
             (place_in S.BuildHasher S.Hasher.Hasher K.hash_input) self.now
             seat.old.front.log seat.new.front.log }
+        ensures exchange { PutsBy self.now gap.now.hash gap.now.passed gap.now.word
+            seat.old.front.log seat.new.front.log result }
         ensures puts { (key : K) (e : Entry K V) (found : List (Note K V S)) → CanChange K.eq
             (hash_in S.BuildHasher S.Hasher.Hasher K.hash_input)
             (place_in S.BuildHasher S.Hasher.Hasher K.hash_input) self.now gap.now.hash
@@ -216,6 +229,12 @@ impl<K: Eq + Hash, V, S: BuildHasher, P: Fact<K, V>> HashMap<K, V, S, P> {
             (place_in S.BuildHasher S.Hasher.Hasher K.hash_input) self.now gap.now.hash
             gap.now.passed gap.now.word to ticket key e found front.old.log
             → IsMet self.now gap.now.hash gap.now.passed ticket found word front.new.log) }
+        ensures exchanged { OnOk result (Exchanged (segment_of self.now.segments gap.now.hash)
+            (bucket_at self.now.size gap.now.hash gap.now.passed) gap.now.word to
+            front.old.log front.new.log) }
+        ensures other { IfErr result (λ word. IsOther (segment_of self.now.segments gap.now.hash)
+            (bucket_at self.now.size gap.now.hash gap.now.passed) gap.now.word word
+            front.new.log) }
         ensures none { IfErr result (λ word. made_on ticket (entries_of front.new.log) ≡ 0) }
     {
         let segment = segment_of(self.segments, gap.hash);

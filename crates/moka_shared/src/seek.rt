@@ -1,19 +1,24 @@
 //! Probes.
 ghost use Rattle.std.specs.Prelude.{◌≡◌, ◌<◌, Bool, length};
 ghost use Rattle.std.specs.Fn.{ComputesKey};
+ghost use Rattle.moka_shelf.specs.Looks.{hiding};
+ghost use Rattle.moka_growth.specs.declared.kinds.CallKind.{CallKind};
 ghost use Rattle.moka_history.specs.Logs.{state_of};
+ghost use Rattle.moka_shared.specs.Accesses.{EndsSo, HasCome, HasKey};
 ghost use Rattle.moka_shared.specs.Hashing.{hash_in, place_in};
 ghost use Rattle.moka_shared.specs.Meeting.{Meets, Shows, Stops, Tests};
 ghost use Rattle.moka_shared.specs.Probing.{Ends, GoesOn, IsLogOf, StopsAt};
+ghost use Rattle.moka_shared.specs.Tables.{names_of};
 
 use crate::Fact;
 use crate::book::Law;
+use crate::node::Node;
 use crate::probe::{Ended, Met};
 use crate::segments::{bucket_at, segment_of};
 use crate::table::HashMap;
 use logbook::Seen;
 use moka_history::Note;
-use moka_shelf::{Hidden, Shelf};
+use moka_shelf::Shelf;
 use moka_words::Word;
 use std::hash::{BuildHasher, Hash};
 
@@ -26,16 +31,22 @@ fn is_true<K, F: FnMut(&K) -> bool>(key: &K, eq: &mut F) -> bool
     eq(key)
 }
 
-impl<K: Eq + Hash, V, S: BuildHasher, P: Fact<K, V>> HashMap<K, V, S, P> {
+impl<K: Eq + Hash, V, S: BuildHasher, P: Fact<K, V>, L: Shelf<Node<K, V, S, P>>> HashMap<
+    K,
+    V,
+    S,
+    P,
+    L,
+> {
     /// Probes the segment of the hash for the key that the test is true of: until it meets a bucket
     /// that is free, or the key's. The front becomes the log at the last load.
-    pub(crate) fn seek<F: FnMut(&K) -> bool>(
-        &self,
+    pub(crate) fn seek<'a, F: FnMut(&K) -> bool>(
+        &'a self,
         front: &mut Seen<Note<K, V, S>, u64, Law>,
-        hidden: &mut Hidden,
+        hidden: &mut L::Look,
         hash: u64,
         eq: &mut F,
-    ) -> Ended
+    ) -> Ended<'a, Node<K, V, S, P>>
         requires callable { F.IsAlwaysCallable eq.old }
         requires book { front.old.book ≡ self.now.book }
         requires log { IsLogOf K.eq (hash_in S.BuildHasher S.Hasher.Hasher K.hash_input)
@@ -48,7 +59,16 @@ impl<K: Eq + Hash, V, S: BuildHasher, P: Fact<K, V>> HashMap<K, V, S, P> {
             → hash ≡ hash_in S.BuildHasher S.Hasher.Hasher K.hash_input self.now.hasher key
             → Ends K.eq (place_in S.BuildHasher S.Hasher.Hasher K.hash_input) self.now key hash
             front.new.log result }
-        ensures stops { StopsAt self.now hash front.new.log hidden.old hidden.new result }
+        ensures course { (key : K) (kind : CallKind) → HasKey kind
+            → ComputesKey F.FnMut (K.eq key) eq.old
+            → hash ≡ hash_in S.BuildHasher S.Hasher.Hasher K.hash_input self.now.hasher key
+            → HasCome K.eq (hash_in S.BuildHasher S.Hasher.Hasher K.hash_input)
+            (place_in S.BuildHasher S.Hasher.Hasher K.hash_input) self.now key kind hash
+            front.old.log front.new.log (EndsSo self.now.size
+            (place_in S.BuildHasher S.Hasher.Hasher K.hash_input self.now.hasher
+            self.now.segments key) kind hash result) }
+        ensures stops { StopsAt self.now hash front.new.log (hiding L.hidden L.last hidden.old)
+            (hiding L.hidden L.last hidden.new) result }
     {
         let segment = segment_of(self.segments, hash);
         for passed in 0..self.size {
@@ -57,7 +77,7 @@ impl<K: Eq + Hash, V, S: BuildHasher, P: Fact<K, V>> HashMap<K, V, S, P> {
             let met = self.meets(front, hidden, word, eq);
             match met {
                 Met::Other => {}
-                Met::Open => return Ended::At { passed, word },
+                Met::Open(node) => return Ended::At { passed, word, node },
                 Met::Hidden(number) => return Ended::Hidden(number),
                 Met::Sealed => return Ended::Sealed { passed, word },
             }
@@ -66,13 +86,13 @@ impl<K: Eq + Hash, V, S: BuildHasher, P: Fact<K, V>> HashMap<K, V, S, P> {
     }
 
     // What a probe for the key that the test is true of meets in this word.
-    fn meets<F: FnMut(&K) -> bool>(
-        &self,
+    fn meets<'a, F: FnMut(&K) -> bool>(
+        &'a self,
         front: &Seen<Note<K, V, S>, u64, Law>,
-        hidden: &mut Hidden,
+        hidden: &mut L::Look,
         word: Word,
         eq: &mut F,
-    ) -> Met
+    ) -> Met<'a, Node<K, V, S, P>>
         requires callable { F.IsAlwaysCallable eq.old }
         requires book { front.now.book ≡ self.now.book }
         requires some { 0 < length front.now.log }
@@ -80,10 +100,11 @@ impl<K: Eq + Hash, V, S: BuildHasher, P: Fact<K, V>> HashMap<K, V, S, P> {
         ensures meets { (h : K → Bool) → ComputesKey F.FnMut h eq.old
             → ComputesKey F.FnMut h eq.new
             × Meets h (state_of front.now.log).pairs word result }
-        ensures stops { Stops word hidden.old hidden.new result }
+        ensures stops { Stops (names_of self.now.book) word (hiding L.hidden L.last hidden.old)
+            (hiding L.hidden L.last hidden.new) result }
     {
         match word {
-            Word::Empty => Met::Open,
+            Word::Empty => Met::Open(None),
             Word::Live(number) => self.tests(front, hidden, number, eq),
             Word::Tomb(number) => self.tests(front, hidden, number, eq),
             _ => Met::Sealed,
@@ -91,13 +112,14 @@ impl<K: Eq + Hash, V, S: BuildHasher, P: Fact<K, V>> HashMap<K, V, S, P> {
     }
 
     // What the test says of the key of this node.
-    fn tests<F: FnMut(&K) -> bool>(
-        &self,
+    #[inline(always)]
+    fn tests<'a, F: FnMut(&K) -> bool>(
+        &'a self,
         front: &Seen<Note<K, V, S>, u64, Law>,
-        hidden: &mut Hidden,
+        hidden: &mut L::Look,
         number: u64,
         eq: &mut F,
-    ) -> Met
+    ) -> Met<'a, Node<K, V, S, P>>
         requires callable { F.IsAlwaysCallable eq.old }
         requires book { front.now.book ≡ self.now.book }
         requires some { 0 < length front.now.log }
@@ -105,14 +127,15 @@ impl<K: Eq + Hash, V, S: BuildHasher, P: Fact<K, V>> HashMap<K, V, S, P> {
         ensures tests { (h : K → Bool) → ComputesKey F.FnMut h eq.old
             → ComputesKey F.FnMut h eq.new
             × Tests h (state_of front.now.log).pairs number result }
-        ensures shows { Shows number hidden.old hidden.new result }
+        ensures shows { Shows (names_of self.now.book) number (hiding L.hidden L.last hidden.old)
+            (hiding L.hidden L.last hidden.new) result }
     {
         match self.shelf.shown(hidden, number) {
             None => Met::Hidden(number),
             Some(node) => {
                 node.is_named(front);
                 if is_true(node.key(), eq) {
-                    return Met::Open;
+                    return Met::Open(Some(node));
                 }
                 Met::Other
             }

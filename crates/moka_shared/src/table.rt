@@ -11,26 +11,35 @@ use crate::words::word_of;
 use crate::{Anything, Fact};
 use logbook::{Seen, Word as Bucket};
 use moka_history::Note;
-use moka_shelf::OnceShelf;
+use moka_shelf::{OnceShelf, Shelf};
 use moka_words::Word;
 use std::hash::{BuildHasher, Hash};
-use std::marker::Model;
+use std::marker::{Model, PhantomData};
 
 /// A table that threads share, without a lock: each bucket is a word of one book, and what a call
-/// answers is what the map of the book's history gives. What is stored owes the fact P. Contracts
+/// answers is what the map of the book's history gives. What is stored owes the fact P, and lies on a
+/// shelf L. Contracts
 /// see its hash builder, how many segments it has, how many words each of them has, and the book.
 #[derive(Drop)]
-pub struct HashMap<K: Eq + Hash, V, S: BuildHasher, P: Fact<K, V> = Anything> {
+pub struct HashMap<
+    K: Eq + Hash,
+    V,
+    S: BuildHasher,
+    P: Fact<K, V> = Anything,
+    L: Shelf<Node<K, V, S, P>> = OnceShelf<Node<K, V, S, P>>,
+> {
     pub(crate) build_hasher: S,
     pub(crate) segments: usize,
     pub(crate) size: usize,
     pub(crate) start: Seen<Note<K, V, S>, u64, Law>,
     pub(crate) door: Bucket<Note<K, V, S>, u64, Law>,
     pub(crate) buckets: Vec<Bucket<Note<K, V, S>, u64, Law>>,
-    pub(crate) shelf: OnceShelf<Node<K, V, S, P>>,
+    pub(crate) shelf: L,
+    pub(crate) of: PhantomData<P>,
 }
 
-impl<K: Eq + Hash, V, S: BuildHasher, P: Fact<K, V>> Model for HashMap<K, V, S, P> {
+impl<K: Eq + Hash, V, S: BuildHasher, P: Fact<K, V>, L: Shelf<Node<K, V, S, P>>> Model
+    for HashMap<K, V, S, P, L> {
     ghost use Rattle.moka_shared.specs.Tables.{IsTable, Table};
 
     ghost Value = { Table S };
@@ -47,10 +56,16 @@ impl<K: Eq + Hash, V, S: BuildHasher, P: Fact<K, V>> Model for HashMap<K, V, S, 
       segments = t.segments;
       size = t.size;
       book = t.start.book;
-    } t.start.log t.door t.buckets.items t.shelf };
+    } t.start.log t.door t.buckets.items (L.owner t.shelf) };
 }
 
-impl<K: Eq + Hash, V, S: BuildHasher, P: Fact<K, V>> HashMap<K, V, S, P> {
+impl<K: Eq + Hash, V, S: BuildHasher, P: Fact<K, V>, L: Shelf<Node<K, V, S, P>>> HashMap<
+    K,
+    V,
+    S,
+    P,
+    L,
+> {
     /// The hash of the key.
     pub fn hash(&self, key: &K) -> u64
         ensures { result

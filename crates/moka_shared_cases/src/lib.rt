@@ -12,6 +12,8 @@ mod removals;
 #[cfg(test)]
 mod seats;
 #[cfg(test)]
+mod shy;
+#[cfg(test)]
 mod sizes;
 #[cfg(test)]
 mod together;

@@ -1,6 +1,6 @@
 -- How a shelf is laid out. A number lies at the place that comes 32 after it. The first twelve rows
 -- are as long as their first place: 32, 64, and so on up to 65,536. From the place 131,072 on each
--- row has 65,536 places.
+-- row has 65,536 places. Those with numbers below 256 are found at once, and further ones in groups.
 use Rattle.std.specs.Prelude.{◌≡◌, ◌<◌, ℕ, ◌+◌, ◌*◌, ◌^◌, List, length}
 use Rattle.boxcar.specs.Slot.{Named}
 use Rattle.boxcar.specs.Table.{span, Tagged}
@@ -9,9 +9,10 @@ use Rattle.boxcar.specs.Table.{span, Tagged}
 abbrev pub From : List ℕ → ℕ → List Named → Type 0
 From names place slots = Tagged names place (length slots) slots
 
--- the first rows have the numbers from 0, and so have the groups of later rows
-abbrev pub AreRows : List ℕ → List Named → List Named → Type 0
-AreRows names first later = Tagged names 0 12 first × Tagged names 0 48 later
+-- the first rows have the numbers from 0, and so have the near rows and the groups of others
+abbrev pub AreRows : List ℕ → (first near later : List Named) → Type 0
+AreRows names first near later =
+    Tagged names 0 12 first × Tagged names 0 256 near × Tagged names 0 48 later
 
 -- the offset in the first row of this number is that of the place
 abbrev pub IsInFirst : ℕ → ℕ → ℕ → Type 0

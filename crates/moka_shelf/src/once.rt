@@ -3,8 +3,8 @@ ghost use Rattle.std.specs.Prelude.{◌≡◌, ◌≤◌, ◌<◌, ◌+◌, ◌^
 ghost use Rattle.moka_shelf.specs.Looks.{Rises};
 
 use crate::rows::{
-    FIRST_PLACES, FIRST_ROWS, FirstRow, GROUPS, Group, LONGEST, OwnItem, Row, RowsOfGroup, copy_of,
-    first_length, in_first, in_group, in_later, new_slots,
+    FIRST_PLACES, FIRST_ROWS, FirstRow, GROUPS, Group, LONGEST, LaterRow, NEAR_ROWS, OwnItem, Row,
+    RowsOfGroup, copy_of, first_length, in_first, in_group, in_later, new_slots,
 };
 use crate::shelf::{Numbered, Shelf};
 use boxcar::slot::OnceSlot;
@@ -59,6 +59,7 @@ pub struct OnceShelf<T: Numbered> {
     alloc: Global,
     names: Tag,
     first: Vec<OnceSlot<Row<T>, FirstRow>>,
+    near: Vec<OnceSlot<Row<T>, LaterRow>>,
     later: Vec<OnceSlot<Group<T>, RowsOfGroup>>,
 }
 
@@ -70,7 +71,8 @@ impl<T: Numbered> Model for OnceShelf<T> {
 
     ghost view = { λ shelf. shelf.names.numbers };
 
-    ghost invariant = { λ shelf. AreRows shelf.names.numbers shelf.first.items shelf.later.items };
+    ghost invariant = { λ shelf. AreRows shelf.names.numbers shelf.first.items shelf.near.items
+        shelf.later.items };
 }
 
 impl<T: Numbered + Drop> OnceShelf<T> {
@@ -80,11 +82,13 @@ impl<T: Numbered + Drop> OnceShelf<T> {
         ensures { IfOk result (λ shelf. shelf ≡ names.now.numbers) }
     {
         let first = new_slots(alloc, names, 0, FIRST_ROWS)?;
+        let near = new_slots(alloc, names, 0, NEAR_ROWS)?;
         let later = new_slots(alloc, names, 0, GROUPS)?;
         Ok(OnceShelf {
             alloc,
             names: copy_of(names),
             first,
+            near,
             later,
         })
     }
@@ -117,11 +121,22 @@ impl<T: Numbered + Drop> OnceShelf<T> {
         requires some { 0 < row }
         requires most { row < 2 ^ 47 + 1 }
     {
+        if row < NEAR_ROWS {
+            return self.lay_row(&self.near[row], row);
+        }
         let (group, at) = in_group(row);
         self.lay_group(group)?;
-        let Some(slot) = self.later[group].get().and_then(|rows| rows.get(at)) else {
-            return Err(AllocError);
-        };
+        match self.later[group].get().and_then(|rows| rows.get(at)) {
+            Some(slot) => self.lay_row(slot, row),
+            None => Err(AllocError),
+        }
+    }
+
+    // Makes the later row of this number in its slot, unless it is there.
+    fn lay_row(&self, slot: &OnceSlot<Row<T>, LaterRow>, row: usize) -> Result<(), AllocError>
+        requires slot { slot.now.tag ≡ row ∷ self.now }
+        requires most { row < 2 ^ 47 + 1 }
+    {
         if slot.get().is_none() {
             drop(slot.set_written(new_slots(self.alloc, &self.names, row * LONGEST, LONGEST)?));
         }
@@ -143,6 +158,7 @@ impl<T: Numbered + Drop> OnceShelf<T> {
 
 impl<T: Numbered> OnceShelf<T> {
     // The slot of this place, where its row is there.
+    #[inline(always)]
     fn slot(&self, place: usize) -> Option<&OnceSlot<T, OwnItem>>
         requires least { 32 ≤ place }
         ensures { IfSome result (λ slot. slot.now.tag ≡ place ∷ self.now) }
@@ -152,11 +168,15 @@ impl<T: Numbered> OnceShelf<T> {
             return self.first[row].get()?.get(offset);
         }
         let (row, offset) = in_later(place);
+        if row < NEAR_ROWS {
+            return self.near[row].get()?.get(offset);
+        }
         let (group, at) = in_group(row);
         self.later[group].get()?.get(at)?.get()?.get(offset)
     }
 
     // The item of this number, where it is there.
+    #[inline(always)]
     fn find(&self, number: u64) -> Option<&T>
         ensures number { IfSome result (λ item. T.number item.now ≡ number) }
         ensures names { IfSome result (λ item. T.names item.now ≡ self.now) }
@@ -212,6 +232,13 @@ impl<T: Numbered> Shelf<T> for OnceShelf<T> {
 
     ghost owner = { λ shelf. shelf };
 
+    fn for_table(alloc: Global, names: &Tag) -> Result<Self, AllocError>
+    where
+        T: Drop,
+    {
+        OnceShelf::new(alloc, names)
+    }
+
     fn fresh_look(&self) -> Hidden {
         Hidden { count: 0, last: 0 }
     }
@@ -230,6 +257,7 @@ impl<T: Numbered> Shelf<T> for OnceShelf<T> {
         Ok(())
     }
 
+    #[inline(always)]
     fn shown<'a>(&'a self, look: &mut Hidden, number: u64) -> Option<&'a T> {
         match self.find(number) {
             Some(item) => Some(item),

@@ -14,7 +14,11 @@ pub(crate) const LONGEST: usize = 65_536;
 /// How many rows there are that are shorter, and one more.
 pub(crate) const FIRST_ROWS: usize = 12;
 
-/// Later rows are in groups, each of twice as many rows as the one before.
+/// Later rows with a number below this one are found at once. There is room for those of the numbers
+/// 0 and 1, too.
+pub(crate) const NEAR_ROWS: usize = 256;
+
+/// All further rows are in groups, each of twice as many rows as the one before.
 pub(crate) const GROUPS: usize = 48;
 
 /// Places before this one lie in the first rows.

@@ -1,8 +1,9 @@
 //! What a table that threads share needs of the place where its items lie.
-ghost use Rattle.std.specs.Prelude.{◌≡◌, ℕ, List, IfNone, IfSome};
+ghost use Rattle.std.specs.Prelude.{◌≡◌, ℕ, List, IfNone, IfOk, IfSome};
 ghost use Rattle.moka_shelf.specs.Looks.{Rises};
 
-use std::alloc::AllocError;
+use boxcar::tag::Tag;
+use std::alloc::{AllocError, Global};
 
 /// An item that has a number, in a table that has names. Only contracts see them.
 pub trait Numbered {
@@ -29,6 +30,13 @@ pub trait Shelf<T: Numbered> {
 
     /// The names of the table whose items lie here.
     ghost owner: { Self → List ℕ };
+
+    /// Makes a shelf on which nothing is set, for a table of these names. An error comes where
+    /// memory is wanting.
+    fn for_table(alloc: Global, names: &Tag) -> Result<Self, AllocError>
+    where
+        T: Drop,
+        ensures { IfOk result (λ shelf. owner shelf ≡ names.now.numbers) };
 
     /// Makes a look from which nothing was hidden yet. It takes no memory.
     fn fresh_look(&self) -> Self::Look

@@ -6,3 +6,9 @@ returns-in-Ok-clause-puts g c = λ key e found can. (c.in-Ok.ensures.done key e 
 
 pub returns-clause-puts : goal.returns-clause-puts
 returns-clause-puts g c = λ key e found can. (refl, c.in-Err.ensures.none, c.in-Err.ensures.met key e found can)
+
+pub returns-in-Ok-clause-exchange : goal.returns-in-Ok-clause-exchange
+returns-in-Ok-clause-exchange g c = (c.args.to, c.requires.chosen, c.in-Ok.ensures.exchanged)
+
+pub returns-clause-exchange : goal.returns-clause-exchange
+returns-clause-exchange g c = (c.args.to, c.requires.chosen, c.in-Err.ensures.other)

@@ -20,3 +20,8 @@ copied_from-requires-clause-named g c =
     let stored = sym c.stored_in.ensures ∙ c.in-Some.is in
     let reads : ReadsNode t c.args.hash number log = record { passed = c.args.passed; word = c.args.word; reads = c.requires.read; names = stored_is_key c.args.word number stored } in
     pair_read eq hash place t log c.requires.log c.args.hash number below reads
+
+pub copied_from-requires-clause-node : goal.copied_from-requires-clause-node
+copied_from-requires-clause-node g c =
+    let number = c.in-Some.number in
+    c.requires.node number (stored_is_key c.args.word number (sym c.stored_in.ensures ∙ c.in-Some.is))

@@ -1,4 +1,5 @@
 use Rattle.std.proofs.Common.{◌∙◌, ◌<◌, Some, ap, refl, subst, sym}
+use Rattle.moka_shelf.specs.Looks.{hiding}
 use Rattle.moka_words.specs.Words.{stored_in}
 use Rattle.moka_pairs.specs.Pairs.{pair_at}
 use Rattle.moka_history.specs.Logs.{state_of}
@@ -7,6 +8,7 @@ use Rattle.moka_shared.specs.Hashing.{hash_in, place_in, segment_of}
 use Rattle.moka_shared.proofs.Divided.{divided}
 use Rattle.moka_shared.proofs.Putting.{can_put}
 use Rattle.moka_shared.proofs.Since.{puts_drawn}
+use Rattle.moka_shared.proofs.Turned.{puts_by_since}
 use Rattle.moka_shared.proofs.table.HashMap.put.Goals as goal
 
 pub put_on-requires-clause-named : goal.put_on-requires-clause-named
@@ -56,7 +58,12 @@ returns-in-Ok-draw_for-clause-puts g c =
     let can = can_put eq hash place equals t key own_below gap.hash c.requires.hash old.front.log mid c.requires.log goes.is_log goes.begins gap.passed gap.word
     c.requires.ends ticket value drawn.named in
     let former = pair_at (state_of old.front.log).pairs (stored_in gap.word) in
-    puts_drawn eq place t gap.hash old record { front = c.draw_for.new.front; hidden = old.hidden; drawn = c.draw_for.new.own; mine = old.mine }
+    puts_drawn eq place (hiding g.L.Shelf.hidden g.L.Shelf.last) t gap.hash old record { front = c.draw_for.new.front; hidden = old.hidden; drawn = c.draw_for.new.own; mine = old.mine }
     c.put_on.new.seat goes.begins refl (λ n. entry_put n key value former) gap.passed ticket drawn.late
     (ap (λ m. m.numbers) c.put_on.ensures.drawn ∙ c.in-Ok-draw_for.ensures.own) c.put_on.result
     (c.put_on.ensures.puts key (entry_put ticket key value former) old.front.log can)
+
+pub returns-in-Ok-draw_for-clause-exchange : goal.returns-in-Ok-draw_for-clause-exchange
+returns-in-Ok-draw_for-clause-exchange g c =
+    puts_by_since c.args.self.now c.args.gap.now.hash c.args.gap.now.passed c.args.gap.now.word c.args.seat.now.front.log c.draw_for.new.front.log c.put_on.new.seat.front.log
+    c.draw_for.ensures.goes_on.begins c.put_on.result c.put_on.ensures.exchange

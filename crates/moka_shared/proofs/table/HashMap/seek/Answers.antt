@@ -1,10 +1,13 @@
 use Rattle.std.proofs.Common.{◌≡◌, ◌∙◌, ◌<◌, ◌^◌, ap, arith, refl, subst}
+use Rattle.moka_shelf.specs.Looks.{hiding}
 use Rattle.moka_words.specs.Arrays.{bucket_at}
 use Rattle.moka_history.specs.Logs.{state_of}
 use Rattle.moka_history.proofs.Lists.{prefix_self, prefix_through}
 use Rattle.moka_shared.specs.Hashing.{hash_in, place_in, segment_of}
 use Rattle.moka_shared.specs.Meeting.{Hides, Meets, Stops}
 use Rattle.moka_shared.specs.Probing.{HasProbed}
+use Rattle.moka_shared.specs.Tables.{IsTable, names_of}
+use Rattle.moka_shared.proofs.Courses.{course_begins, course_full, power_some, probe_breaks, probe_ends, probe_passes}
 use Rattle.moka_shared.proofs.Divided.{divided}
 use Rattle.moka_shared.proofs.Loading.{goes_through, reads_at}
 use Rattle.moka_shared.proofs.Placed.{segment_below}
@@ -23,6 +26,10 @@ loop-passed-init g c =
       book = refl;
       goes_on = record { begins = prefix_self c.args.front.now.log; is_log = c.requires.log };
       hidden = refl;
+      course = λ key k has computes h_is.
+          course_begins eq hash place equals t key (segment_below t.segments (hash t.hasher key) c.requires.log.some (subst (λ n. n < 2 ^ 64) h_is (let f = c.ranges.hash.fits in omega (arith, f))))
+          c.args.hash h_is k has c.args.front.now.log c.requires.log
+          (power_some t.size (subst (λ s. IsTable s c.self.inside.start.log c.self.inside.door c.self.inside.buckets.items (g.L.Shelf.owner c.self.inside.shelf)) c.self.view_is c.self.invariant).power);
       knows = λ key computes h_is. (
         computes,
         begins_probed eq hash place equals t key (segment_below t.segments (hash t.hasher key) c.requires.log.some (subst (λ n. n < 2 ^ 64) h_is (let f = c.ranges.hash.fits in omega (arith, f))))
@@ -46,7 +53,17 @@ loop-passed-preserved g c =
       callable = c.meets-met.ensures.callable;
       book = c.load-word.ensures.book ∙ inv.book;
       goes_on = record { begins = prefix_through c.args.front.now.log old new inv.goes_on.begins loads.goes_on.begins; is_log = loads.goes_on.is_log };
-      hidden = subst (λ m. Stops c.load-word.result c.loop-passed.hidden c.meets-met.new.hidden m) met c.meets-met.ensures.stops ∙ inv.hidden;
+      hidden = subst (λ m. Stops (names_of t.book) c.load-word.result (hiding g.L.Shelf.hidden g.L.Shelf.last c.loop-passed.hidden)
+          (hiding g.L.Shelf.hidden g.L.Shelf.last c.meets-met.new.hidden) m) met c.meets-met.ensures.stops ∙ inv.hidden;
+      course = λ key k has computes h_is.
+          let known = inv.knows key computes h_is in
+          let told = c.meets-met.ensures.meets (eq key) known.0 in
+          probe_passes eq hash place equals t key (segment_below t.segments (hash t.hasher key) c.requires.log.some (subst (λ n. n < 2 ^ 64) h_is (let f = c.ranges.hash.fits in omega (arith, f))))
+          c.args.hash h_is k has c.args.front.now.log old new inv.goes_on.is_log c.segment_of-segment.result c.bucket_at-index.result c.load-word.result c.load-word.ensures.loads
+          (c.segment_of-segment.ensures.is ∙ (ap (λ s. segment_of s.segments c.args.hash) c.self.view_is ∙ ap (segment_of t.segments) h_is))
+          c.loop-passed.passed (c.bucket_at-index.ensures.bucket ∙ ap (λ s. bucket_at s.size c.args.hash c.loop-passed.passed) c.self.view_is)
+          (subst (λ s. c.loop-passed.passed < s.size) c.self.view_is c.loop-passed-test.true) known.1 (inv.course key k has computes h_is)
+          (subst (λ m. Meets (eq key) (state_of new).pairs c.load-word.result m) met told.1);
       knows = λ key computes h_is.
           let known = inv.knows key computes h_is in
           let told = c.meets-met.ensures.meets (eq key) known.0 in (
@@ -76,7 +93,7 @@ returns-in-Open-clause-ends g c = λ key computes h_is.
     c.args.hash h_is old new inv.goes_on.is_log c.segment_of-segment.result c.bucket_at-index.result c.load-word.result c.load-word.ensures.loads
     (c.segment_of-segment.ensures.is ∙ (ap (λ s. segment_of s.segments c.args.hash) c.self.view_is ∙ ap (segment_of t.segments) h_is))
     c.loop-passed.passed (c.bucket_at-index.ensures.bucket ∙ ap (λ s. bucket_at s.size c.args.hash c.loop-passed.passed) c.self.view_is)
-    (subst (λ s. c.loop-passed.passed < s.size) c.self.view_is c.loop-passed-test.true) known.1
+    (subst (λ s. c.loop-passed.passed < s.size) c.self.view_is c.loop-passed-test.true) known.1 c.in-Open.node
     (subst (λ m. Meets (eq key) (state_of new).pairs c.load-word.result m) c.in-Open.is told.1)
 
 pub returns-in-Open-clause-goes_on : goal.returns-in-Open-clause-goes_on
@@ -103,8 +120,9 @@ returns-in-Open-clause-stops g c =
     (c.segment_of-segment.ensures.is ∙ ap (λ s. segment_of s.segments c.args.hash) c.self.view_is)
     (c.bucket_at-index.ensures.bucket ∙ ap (λ s. bucket_at s.size c.args.hash c.loop-passed.passed) c.self.view_is)
     (subst (λ s. c.loop-passed.passed < s.size) c.self.view_is c.loop-passed-test.true) in
-    let stops = subst (λ m. Stops c.load-word.result c.loop-passed.hidden c.meets-met.new.hidden m) c.in-Open.is c.meets-met.ensures.stops in
-    (reads, stops ∙ inv.hidden)
+    let stops = subst (λ m. Stops (names_of t.book) c.load-word.result (hiding g.L.Shelf.hidden g.L.Shelf.last c.loop-passed.hidden)
+    (hiding g.L.Shelf.hidden g.L.Shelf.last c.meets-met.new.hidden) m) c.in-Open.is c.meets-met.ensures.stops in
+    (reads, stops.0 ∙ inv.hidden, stops.1)
 
 pub returns-in-Hidden-clause-goes_on : goal.returns-in-Hidden-clause-goes_on
 returns-in-Hidden-clause-goes_on g c =
@@ -130,9 +148,10 @@ returns-in-Hidden-clause-stops g c =
     (c.segment_of-segment.ensures.is ∙ ap (λ s. segment_of s.segments c.args.hash) c.self.view_is)
     (c.bucket_at-index.ensures.bucket ∙ ap (λ s. bucket_at s.size c.args.hash c.loop-passed.passed) c.self.view_is)
     (subst (λ s. c.loop-passed.passed < s.size) c.self.view_is c.loop-passed-test.true) in
-    let stops = subst (λ m. Stops c.load-word.result c.loop-passed.hidden c.meets-met.new.hidden m) c.in-Hidden.is c.meets-met.ensures.stops in (
+    let stops = subst (λ m. Stops (names_of t.book) c.load-word.result (hiding g.L.Shelf.hidden g.L.Shelf.last c.loop-passed.hidden)
+    (hiding g.L.Shelf.hidden g.L.Shelf.last c.meets-met.new.hidden) m) c.in-Hidden.is c.meets-met.ensures.stops in (
       record { passed = c.loop-passed.passed; word = c.load-word.result; reads = reads; names = stops.0 },
-      subst (λ h. Hides c.in-Hidden.number h c.meets-met.new.hidden) inv.hidden stops.1,
+      subst (λ h. Hides c.in-Hidden.number h (hiding g.L.Shelf.hidden g.L.Shelf.last c.meets-met.new.hidden)) inv.hidden stops.1,
     )
 
 pub returns-in-Sealed-clause-goes_on : goal.returns-in-Sealed-clause-goes_on
@@ -159,8 +178,88 @@ returns-in-Sealed-clause-stops g c =
     (c.segment_of-segment.ensures.is ∙ ap (λ s. segment_of s.segments c.args.hash) c.self.view_is)
     (c.bucket_at-index.ensures.bucket ∙ ap (λ s. bucket_at s.size c.args.hash c.loop-passed.passed) c.self.view_is)
     (subst (λ s. c.loop-passed.passed < s.size) c.self.view_is c.loop-passed-test.true) in
-    let stops = subst (λ m. Stops c.load-word.result c.loop-passed.hidden c.meets-met.new.hidden m) c.in-Sealed.is c.meets-met.ensures.stops in
+    let stops = subst (λ m. Stops (names_of t.book) c.load-word.result (hiding g.L.Shelf.hidden g.L.Shelf.last c.loop-passed.hidden)
+    (hiding g.L.Shelf.hidden g.L.Shelf.last c.meets-met.new.hidden) m) c.in-Sealed.is c.meets-met.ensures.stops in
     (reads, stops.0, stops.1 ∙ inv.hidden)
+
+pub returns-in-Open-clause-course : goal.returns-in-Open-clause-course
+returns-in-Open-clause-course g c = λ key k has computes h_is.
+    let eq = g.K.PartialEq.eq in
+    let hash = hash_in g.S.BuildHasher g.S.Hasher.Hasher g.K.Hash.hash_input in
+    let place = place_in g.S.BuildHasher g.S.Hasher.Hasher g.K.Hash.hash_input in
+    let equals = divided g.S.BuildHasher g.S.Hasher.Hasher g.K.Hash.hash_input eq g.met.K.Eq.laws g.met.K.Hash.respects_eq in
+    let t = c.args.self.now in
+    let inv = c.loop-passed.invariant in
+    let first = c.args.front.now.log in
+    let old = c.loop-passed.front.log in
+    let new = c.load-word.new.front.log in
+    let known = inv.knows key computes h_is in
+    let come = inv.course key k has computes h_is in
+    let told = c.meets-met.ensures.meets (eq key) known.0 in
+    let ends = stops_open eq hash place equals t key (segment_below t.segments (hash t.hasher key) c.requires.log.some (subst (λ n. n < 2 ^ 64) h_is (let f = c.ranges.hash.fits in omega (arith, f))))
+    c.args.hash h_is old new inv.goes_on.is_log c.segment_of-segment.result c.bucket_at-index.result c.load-word.result c.load-word.ensures.loads
+    (c.segment_of-segment.ensures.is ∙ (ap (λ s. segment_of s.segments c.args.hash) c.self.view_is ∙ ap (segment_of t.segments) h_is))
+    c.loop-passed.passed (c.bucket_at-index.ensures.bucket ∙ ap (λ s. bucket_at s.size c.args.hash c.loop-passed.passed) c.self.view_is)
+    (subst (λ s. c.loop-passed.passed < s.size) c.self.view_is c.loop-passed-test.true) known.1 c.in-Open.node
+    (subst (λ m. Meets (eq key) (state_of new).pairs c.load-word.result m) c.in-Open.is told.1) in
+    probe_ends eq hash place equals t key (segment_below t.segments (hash t.hasher key) c.requires.log.some (subst (λ n. n < 2 ^ 64) h_is (let f = c.ranges.hash.fits in omega (arith, f))))
+    c.args.hash h_is k has first old new inv.goes_on.is_log c.segment_of-segment.result c.bucket_at-index.result c.load-word.result c.load-word.ensures.loads
+    (c.segment_of-segment.ensures.is ∙ (ap (λ s. segment_of s.segments c.args.hash) c.self.view_is ∙ ap (segment_of t.segments) h_is))
+    c.loop-passed.passed (c.bucket_at-index.ensures.bucket ∙ ap (λ s. bucket_at s.size c.args.hash c.loop-passed.passed) c.self.view_is)
+    (subst (λ s. c.loop-passed.passed < s.size) c.self.view_is c.loop-passed-test.true) known.1 come ends
+
+pub returns-in-Hidden-clause-course : goal.returns-in-Hidden-clause-course
+returns-in-Hidden-clause-course g c = λ key k has computes h_is.
+    let eq = g.K.PartialEq.eq in
+    let hash = hash_in g.S.BuildHasher g.S.Hasher.Hasher g.K.Hash.hash_input in
+    let place = place_in g.S.BuildHasher g.S.Hasher.Hasher g.K.Hash.hash_input in
+    let equals = divided g.S.BuildHasher g.S.Hasher.Hasher g.K.Hash.hash_input eq g.met.K.Eq.laws g.met.K.Hash.respects_eq in
+    let t = c.args.self.now in
+    let inv = c.loop-passed.invariant in
+    let first = c.args.front.now.log in
+    let old = c.loop-passed.front.log in
+    let new = c.load-word.new.front.log in
+    let known = inv.knows key computes h_is in
+    let come = inv.course key k has computes h_is in
+    probe_breaks eq hash place equals t key (segment_below t.segments (hash t.hasher key) c.requires.log.some (subst (λ n. n < 2 ^ 64) h_is (let f = c.ranges.hash.fits in omega (arith, f))))
+    c.args.hash h_is k has first old new inv.goes_on.is_log c.segment_of-segment.result c.bucket_at-index.result c.load-word.result c.load-word.ensures.loads
+    (c.segment_of-segment.ensures.is ∙ (ap (λ s. segment_of s.segments c.args.hash) c.self.view_is ∙ ap (segment_of t.segments) h_is))
+    c.loop-passed.passed (c.bucket_at-index.ensures.bucket ∙ ap (λ s. bucket_at s.size c.args.hash c.loop-passed.passed) c.self.view_is)
+    (subst (λ s. c.loop-passed.passed < s.size) c.self.view_is c.loop-passed-test.true) known.1 come
+
+pub returns-in-Sealed-clause-course : goal.returns-in-Sealed-clause-course
+returns-in-Sealed-clause-course g c = λ key k has computes h_is.
+    let eq = g.K.PartialEq.eq in
+    let hash = hash_in g.S.BuildHasher g.S.Hasher.Hasher g.K.Hash.hash_input in
+    let place = place_in g.S.BuildHasher g.S.Hasher.Hasher g.K.Hash.hash_input in
+    let equals = divided g.S.BuildHasher g.S.Hasher.Hasher g.K.Hash.hash_input eq g.met.K.Eq.laws g.met.K.Hash.respects_eq in
+    let t = c.args.self.now in
+    let inv = c.loop-passed.invariant in
+    let first = c.args.front.now.log in
+    let old = c.loop-passed.front.log in
+    let new = c.load-word.new.front.log in
+    let known = inv.knows key computes h_is in
+    let come = inv.course key k has computes h_is in
+    probe_breaks eq hash place equals t key (segment_below t.segments (hash t.hasher key) c.requires.log.some (subst (λ n. n < 2 ^ 64) h_is (let f = c.ranges.hash.fits in omega (arith, f))))
+    c.args.hash h_is k has first old new inv.goes_on.is_log c.segment_of-segment.result c.bucket_at-index.result c.load-word.result c.load-word.ensures.loads
+    (c.segment_of-segment.ensures.is ∙ (ap (λ s. segment_of s.segments c.args.hash) c.self.view_is ∙ ap (segment_of t.segments) h_is))
+    c.loop-passed.passed (c.bucket_at-index.ensures.bucket ∙ ap (λ s. bucket_at s.size c.args.hash c.loop-passed.passed) c.self.view_is)
+    (subst (λ s. c.loop-passed.passed < s.size) c.self.view_is c.loop-passed-test.true) known.1 come
+
+pub returns-clause-course : goal.returns-clause-course
+returns-clause-course g c = λ key k has computes h_is.
+    let eq = g.K.PartialEq.eq in
+    let hash = hash_in g.S.BuildHasher g.S.Hasher.Hasher g.K.Hash.hash_input in
+    let place = place_in g.S.BuildHasher g.S.Hasher.Hasher g.K.Hash.hash_input in
+    let equals = divided g.S.BuildHasher g.S.Hasher.Hasher g.K.Hash.hash_input eq g.met.K.Eq.laws g.met.K.Hash.respects_eq in
+    let t = c.args.self.now in
+    let most = c.loop-passed.auto.passed-end in
+    let least = c.loop-passed-test.false in
+    let all : c.loop-passed.passed ≡ c.self.inside.size = omega (arith, most, least) in
+    course_full eq hash place equals t key (segment_below t.segments (hash t.hasher key) c.requires.log.some (subst (λ n. n < 2 ^ 64) h_is (let f = c.ranges.hash.fits in omega (arith, f))))
+    c.args.hash h_is k has c.args.front.now.log c.loop-passed.front.log c.loop-passed.passed (all ∙ ap (λ s. s.size) c.self.view_is)
+    (power_some t.size (subst (λ s. IsTable s c.self.inside.start.log c.self.inside.door c.self.inside.buckets.items (g.L.Shelf.owner c.self.inside.shelf)) c.self.view_is c.self.invariant).power)
+    (c.loop-passed.invariant.course key k has computes h_is)
 
 pub returns-clause-ends : goal.returns-clause-ends
 returns-clause-ends g c = λ key computes h_is.
