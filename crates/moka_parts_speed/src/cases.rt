@@ -1,13 +1,11 @@
 //! Cases of both tables: what no clause of them says; and two uses of a table without a name.
 
 mod alone;
-mod hall;
 mod memory;
 mod rows;
 mod together;
-mod visits;
+mod uses;
 
-use crate::peers::Peer;
 use crate::tables::{Deed, Fold, on_both};
 use crate::zeros::Zero;
 pub(crate) use alone::one_seat;
@@ -16,39 +14,28 @@ use std::alloc::{AllocError, Global};
 use std::rt::Clock;
 use std::sync::Wait;
 use std::thread::Threads;
-pub(crate) use together::{all_meet, all_together};
+pub(crate) use together::all_together;
 
-/// Tries the cases that are asked for. Answers whether each came out right, and that could be told.
-pub(crate) fn are_right<R: Threads + Wait + Clock + Print + Eprint + Sync>(
-    rt: &R,
-    alloc: Global,
-    peer: Peer,
-) -> bool {
-    match peer {
-        Peer::Memory => memory_is_right(rt, alloc),
-        Peer::Cases | Peer::All => all_are_right(rt, alloc),
-        Peer::Parts | Peer::Named | Peer::Map | Peer::Nothing => true,
-    }
-}
-
-/// Tries the case in which memory may be refused.
-fn memory_is_right<R: Threads + Wait + Clock + Print + Eprint + Sync>(
+/// Tries the case in which memory may be refused. Answers whether it came out right, and that could
+/// be told.
+pub(crate) fn memory_is_right<R: Threads + Wait + Clock + Print + Eprint + Sync>(
     rt: &R,
     alloc: Global,
 ) -> bool {
     told(rt, "memory", on_both::<Fold, R>(rt, alloc, Deed::Memory))
 }
 
-/// Tries all cases.
-fn all_are_right<R: Threads + Wait + Clock + Print + Eprint + Sync>(rt: &R, alloc: Global) -> bool {
+/// Tries all cases. Answers whether each came out right, and that could be told.
+pub(crate) fn all_are_right<R: Threads + Wait + Clock + Print + Eprint + Sync>(
+    rt: &R,
+    alloc: Global,
+) -> bool {
     let memory = memory_is_right(rt, alloc);
     let seats = told(rt, "seats", on_both::<Fold, R>(rt, alloc, Deed::Seats));
     let part = told(rt, "part", on_both::<Zero, R>(rt, alloc, Deed::Seats));
     let share = told(rt, "share", on_both::<Fold, R>(rt, alloc, Deed::Share));
-    let meet = told(rt, "meet", on_both::<Fold, R>(rt, alloc, Deed::Meet));
-    let hall = told(rt, "hall", hall::are_booked_once(rt, alloc));
-    let visits = told(rt, "visits", visits::are_all_counted(rt, alloc));
-    memory && seats && part && share && meet && hall && visits
+    let uses = told(rt, "uses", uses::are_right(rt, alloc));
+    memory && seats && part && share && uses
 }
 
 /// Prints how the case of this name came out, and answers whether it came out right. Of one whose

@@ -17,28 +17,29 @@ mod works;
 mod zeros;
 
 use asked::Asked;
+use cases::{all_are_right, memory_is_right};
 use peers::Peer;
 use std::alloc::{AllocError, Global};
 use std::process::ExitCode;
 use std::rt::Clock;
 use std::sync::Wait;
 use std::thread::Threads;
-use tables::{Deed, Fold, on_named, on_parts};
+use tables::{Deed, Fold, on_both, on_named, on_parts};
 use timed::time_map;
 
 fn main(rt: HostRuntime) -> ExitCode {
     let Ok(asked) = Asked::read(&rt) else {
         return ExitCode::FAILURE;
     };
-    let are_timed = measure(&rt, rt.alloc(), &asked).unwrap_or(false);
-    if cases::are_right(&rt, rt.alloc(), asked.peer) && are_timed {
+    if is_done(&rt, rt.alloc(), &asked).unwrap_or(false) {
         return ExitCode::SUCCESS;
     }
     ExitCode::FAILURE
 }
 
-/// Times what is asked for. Answers whether the times could be told.
-fn measure<R: Threads + Wait + Clock + Print + Eprint + Sync>(
+/// Times or tries what is asked for. Answers whether the times could be told, and whether each case
+/// came out right.
+fn is_done<R: Threads + Wait + Clock + Print + Eprint + Sync>(
     rt: &R,
     alloc: Global,
     asked: &Asked,
@@ -48,18 +49,20 @@ fn measure<R: Threads + Wait + Clock + Print + Eprint + Sync>(
         Peer::Parts => on_parts::<Fold, R>(rt, alloc, time),
         Peer::Named => on_named::<Fold, R>(rt, alloc, time),
         Peer::Map => Ok(time_map(rt, alloc, asked)),
-        Peer::All => measure_all(rt, alloc, asked),
-        Peer::Memory | Peer::Cases | Peer::Nothing => Ok(true),
+        Peer::Memory => Ok(memory_is_right(rt, alloc)),
+        Peer::Cases => Ok(all_are_right(rt, alloc)),
+        Peer::All => Ok(all_is_done(rt, alloc, asked)),
+        Peer::Nothing => Ok(true),
     }
 }
 
-/// Times all peers, one after the other.
-fn measure_all<R: Threads + Wait + Clock + Print + Eprint + Sync>(
+/// Times all peers, one after the other, and tries all cases.
+fn all_is_done<R: Threads + Wait + Clock + Print + Eprint + Sync>(
     rt: &R,
     alloc: Global,
     asked: &Asked,
-) -> Result<bool, AllocError> {
-    let parts = on_parts::<Fold, R>(rt, alloc, Deed::Time(*asked))?;
-    let named = on_named::<Fold, R>(rt, alloc, Deed::Time(*asked))?;
-    Ok(time_map(rt, alloc, asked) && parts && named)
+) -> bool {
+    let tables = on_both::<Fold, R>(rt, alloc, Deed::Time(*asked));
+    let are_timed = tables.unwrap_or(false) && time_map(rt, alloc, asked);
+    all_are_right(rt, alloc) && are_timed
 }

@@ -2,7 +2,7 @@
 ghost use Rattle.std.specs.Prelude.{◌≡◌, ℕ};
 
 use crate::asked::Asked;
-use crate::cases::{all_meet, all_together, fill, one_seat};
+use crate::cases::{all_together, fill, one_seat};
 use crate::timed::time_table;
 use moka_parts::{NamedParts, Naming, OpenBook, Parts, SharedTable};
 use std::alloc::{AllocError, Global};
@@ -28,10 +28,8 @@ pub(crate) enum Deed {
     Seats,
     /// Calls whose memory may be refused.
     Memory,
-    /// Many threads on the same keys.
+    /// Many threads, whose seats meet.
     Share,
-    /// The seats of many threads, which meet.
-    Meet,
     /// The calls of threads are timed.
     Time(Asked),
 }
@@ -49,7 +47,6 @@ impl Deed {
             Deed::Seats => one_seat(rt, alloc, &table),
             Deed::Memory => fill(rt, alloc, &table),
             Deed::Share => all_together(rt, alloc, &table),
-            Deed::Meet => all_meet(rt, alloc, &table),
             Deed::Time(asked) => time_table(rt, alloc, name, &table, &asked),
         }
     }

@@ -8,7 +8,6 @@ use crate::works::Work;
 use moka_parts::SharedTable;
 use std::alloc::Global;
 use std::collections::HashMap;
-use std::io;
 use std::rt::Clock;
 use std::sync::{Mutex, Wait};
 use std::thread::Threads;
@@ -81,20 +80,14 @@ fn time<F: Fn(usize) -> u64 + Sync, R: Threads + Clock + Print + Eprint + Sync>(
         return false;
     };
     match start.elapsed(rt) {
-        Ok(taken) => tell(rt, name, asked, found, taken.as_nanos()).is_ok(),
+        Ok(taken) => tell(rt, name, asked, found, taken.as_nanos()),
         Err(_) => false,
     }
 }
 
-/// Prints how many of the calls found a pair, and the time a call took in its thread.
-fn tell<R: Print + Eprint>(
-    rt: &R,
-    name: &str,
-    asked: &Asked,
-    found: u64,
-    nanos: u128,
-) -> io::Result<()> {
-    println!(rt; "{name} {found}")?;
+/// Prints how many of the calls found a pair, and the time a call took in its thread. Answers whether
+/// that could be printed.
+fn tell<R: Print + Eprint>(rt: &R, name: &str, asked: &Asked, found: u64, nanos: u128) -> bool {
     let each = nanos / u128::from(asked.share().max(1));
-    eprintln!(rt; "{name}: {each} ns a call")
+    println!(rt; "{name} {found}").is_ok() && eprintln!(rt; "{name}: {each} ns a call").is_ok()
 }

@@ -1,7 +1,7 @@
 //! Two callers in one thread, on both tables.
 ghost use Rattle.std.specs.Prelude.{ℕ};
 
-use super::rows::{Call, Row, is_right, right};
+use super::rows::{Bases, Call, Row, is_right, listed, right};
 use moka_parts::SharedTable;
 use std::alloc::Global;
 use std::sync::Wait;
@@ -17,6 +17,13 @@ const ALONE: [Row; 8] = [
     (1, Call::PutIfAbsent(12), None),
     (1, Call::PutIfAbsent(13), Some(12)),
 ];
+
+/// The rows are made once, as they stand.
+const ONCE: Bases = Bases {
+    first: 0,
+    by: 0,
+    times: 1,
+};
 
 /// What the other caller and it do then in turn, once they have met: the other finds what the one
 /// has put. Both look at a count, and then each puts one more than it found: one addition is lost,
@@ -39,24 +46,11 @@ pub(crate) fn one_seat<Q: Drop, T: SharedTable<u64, u64, Seat = Q>, R: Wait>(
     requires { (k v : ℕ) → T.holds k v }
 {
     let (mut one, mut other) = (table.seat(), table.seat());
-    let alone = right(rt, table, &mut one, &ALONE, 0);
+    let alone = right(rt, table, &mut one, &ALONE, &ONCE);
     table.meet(&mut one, &mut other);
-    let stored = is_stored_alone(rt, alloc, table, &mut other);
+    let (listed, pairs) = (listed(rt, alloc, table, &mut other, 1), table.len(rt));
     let both = both_right(rt, table, &mut one, &mut other);
-    alone == 8 && stored && both == 8
-}
-
-/// Whether the table has the key 1 alone, and lists it.
-fn is_stored_alone<Q: Drop, T: SharedTable<u64, u64, Seat = Q>, R: Wait>(
-    rt: &R,
-    alloc: Global,
-    table: &T,
-    seat: &mut Q,
-) -> bool {
-    match table.keys(rt, alloc, seat, table.part_of(&1)) {
-        Ok(keys) => keys.len() == 1 && table.len(rt) == 1,
-        Err(_) => false,
-    }
+    alone == 8 && listed == 1 && pairs == 1 && both == 8
 }
 
 /// How many of the calls of both answer what their rows say.

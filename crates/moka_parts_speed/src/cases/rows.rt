@@ -43,19 +43,32 @@ pub(crate) fn raised(row: &Row, base: u64) -> Row {
     (key.wrapping_add(base), call.raised(base), want)
 }
 
-/// How many of the calls answer what their rows say, at this base.
+/// The bases at which rows are made: the first one, how far it is from one to the next, and how many
+/// there are.
+#[derive(Drop)]
+pub(crate) struct Bases {
+    pub(crate) first: u64,
+    pub(crate) by: u64,
+    pub(crate) times: u64,
+}
+
+/// How many of the calls answer what their rows say, made at each of the bases.
 pub(crate) fn right<Q: Drop, T: SharedTable<u64, u64, Seat = Q>, R: Wait>(
     rt: &R,
     table: &T,
     seat: &mut Q,
     rows: &[Row],
-    base: u64,
+    bases: &Bases,
 ) -> u64
     requires { (k v : ℕ) → T.holds k v }
 {
     let mut count = 0u64;
-    for row in rows {
-        count = count.wrapping_add(u64::from(is_right(rt, table, seat, raised(row, base))));
+    let mut base = bases.first;
+    for _ in 0..bases.times {
+        for row in rows {
+            count = count.wrapping_add(u64::from(is_right(rt, table, seat, raised(row, base))));
+        }
+        base = base.wrapping_add(bases.by);
     }
     count
 }
@@ -131,9 +144,7 @@ pub(crate) fn listed<Q: Drop, T: SharedTable<u64, u64, Seat = Q>, R: Wait>(
 {
     let mut count = 0u64;
     for number in 0..table.parts() {
-        if number < 64 {
-            count = count.wrapping_add(listed_of(rt, alloc, table, seat, number, pairs));
-        }
+        count = count.wrapping_add(listed_of(rt, alloc, table, seat, number, pairs));
     }
     count
 }

@@ -1,8 +1,7 @@
 //! Many threads, each with a seat, on both tables.
 ghost use Rattle.std.specs.Prelude.{ℕ};
 
-use super::rows::{Call, Row, answer, is_right, listed, right};
-use crate::totals::total;
+use super::rows::{Bases, Call, Row, listed, right};
 use moka_parts::SharedTable;
 use std::alloc::Global;
 use std::sync::Wait;
@@ -12,9 +11,6 @@ use std::thread::Threads;
 const THREADS: usize = 64;
 
 const KEYS: u64 = 512;
-
-/// How many of the keys one of the threads puts, where they share them.
-const SHARE: u64 = 8;
 
 /// What all threads do at once, each with a seat of its own.
 struct Round {
@@ -28,6 +24,8 @@ struct Round {
     right: u64,
     /// How many pairs the table has then.
     pairs: u64,
+    /// How many keys have themselves as their values then.
+    found: u64,
 }
 
 /// How many calls all threads make.
@@ -46,6 +44,7 @@ const OWN_KEYS: Round = Round {
     by_time: 1,
     right: CALLS,
     pairs: 0,
+    found: 0,
 };
 
 /// All put the same keys where these are absent: each is put by one of the threads, for which alone
@@ -60,6 +59,7 @@ const SAME_KEYS: Round = Round {
     by_time: 1,
     right: CALLS - KEYS * (THREADS as u64 - 1),
     pairs: KEYS,
+    found: KEYS,
 };
 
 /// All put 1 at one key, at which 0 stands. Each put finds 1 there, but for the first: each of the
@@ -70,6 +70,7 @@ const ONE_KEY: Round = Round {
     by_time: 0,
     right: CALLS - 1,
     pairs: KEYS,
+    found: KEYS - 1,
 };
 
 /// Whether all threads do what each round says, one round after the other.
@@ -88,7 +89,8 @@ pub(crate) fn all_together<
     true
 }
 
-/// Whether as many calls of all threads are right as the round says, and leave as many pairs.
+/// Whether as many calls of all threads are right as the round says. Each thread hands its seat back,
+/// and one seat meets all of them: then the table is checked by that one.
 fn is_as_said<Q: Drop + Send, T: SharedTable<u64, u64, Seat = Q> + Sync, R: Threads + Wait + Sync>(
     rt: &R,
     alloc: Global,
@@ -97,80 +99,66 @@ fn is_as_said<Q: Drop + Send, T: SharedTable<u64, u64, Seat = Q> + Sync, R: Thre
 ) -> bool
     requires { (k v : ℕ) → T.holds k v }
 {
-    let count = total(
-        rt,
-        alloc,
-        THREADS,
-        &|thread| done(rt, table, round, thread as u64),
-    );
-    count.unwrap_or(0) == round.right && table.len(rt) == round.pairs
+    let run = &|thread| done(rt, table, round, thread as u64);
+    let Ok(mut ends) = thread::map_indices(rt, alloc, THREADS, run) else {
+        return false;
+    };
+    let mut seat = table.seat();
+    let mut count = 0u64;
+    for end in &mut ends {
+        count = count.wrapping_add(end.right);
+        table.meet(&mut seat, &mut end.seat);
+    }
+    count == round.right && leaves(rt, alloc, table, &mut seat, round)
 }
 
-/// How many calls of one of the threads answer what they should.
+/// What a thread hands back: how many of its calls answer what they should, and its seat.
+#[derive(Drop)]
+struct End<Q> {
+    right: u64,
+    seat: Q,
+}
+
+/// What one of the threads does.
 fn done<Q: Drop, T: SharedTable<u64, u64, Seat = Q>, R: Wait>(
     rt: &R,
     table: &T,
     round: &Round,
     thread: u64,
-) -> u64
+) -> End<Q>
     requires { (k v : ℕ) → T.holds k v }
 {
     let mut seat = table.seat();
-    let mut count = 0u64;
-    let mut base = thread.wrapping_mul(round.by_thread);
-    for _ in 0..KEYS {
-        count = count.wrapping_add(right(rt, table, &mut seat, &round.rows, base));
-        base = base.wrapping_add(round.by_time);
-    }
-    count
-}
-
-/// Each thread puts keys of its own, and hands its seat back. One seat meets all of them, and then
-/// it finds and lists what all have put.
-pub(crate) fn all_meet<
-    Q: Drop + Send,
-    T: SharedTable<u64, u64, Seat = Q> + Sync,
-    R: Threads + Wait + Sync,
->(rt: &R, alloc: Global, table: &T) -> bool
-    requires { (k v : ℕ) → T.holds k v }
-{
-    let put = &|number| seated(rt, table, number as u64);
-    let Ok(mut seats) = thread::map_indices(rt, alloc, THREADS, put) else {
-        return false;
+    let bases = Bases {
+        first: thread.wrapping_mul(round.by_thread),
+        by: round.by_time,
+        times: KEYS,
     };
-    let mut seat = table.seat();
-    for other in &mut seats {
-        table.meet(&mut seat, other);
-    }
-    finds_all(rt, alloc, table, &mut seat)
+    let right = right(rt, table, &mut seat, &round.rows, &bases);
+    End { right, seat }
 }
 
-/// Whether the seat finds and lists what all have put.
-fn finds_all<Q: Drop, T: SharedTable<u64, u64, Seat = Q>, R: Wait>(
+/// A key is found, with itself as its value.
+const FOUND: [Row; 1] = [(0, Call::Look, Some(0))];
+
+/// The keys that all share.
+const EACH_KEY: Bases = Bases {
+    first: 0,
+    by: 1,
+    times: KEYS,
+};
+
+/// Whether the seat finds and lists what the round leaves.
+fn leaves<Q: Drop, T: SharedTable<u64, u64, Seat = Q>, R: Wait>(
     rt: &R,
     alloc: Global,
     table: &T,
     seat: &mut Q,
+    round: &Round,
 ) -> bool
     requires { (k v : ℕ) → T.holds k v }
 {
-    let mut found = 0u64;
-    for key in 0..KEYS {
-        let row = (key, Call::Look, Some(key));
-        found = found.wrapping_add(u64::from(is_right(rt, table, seat, row)));
-    }
-    let listed = listed(rt, alloc, table, seat, KEYS);
-    found == KEYS && listed == KEYS && table.len(rt) == KEYS
-}
-
-/// A seat, once it has put its share of the keys.
-fn seated<Q: Drop, T: SharedTable<u64, u64, Seat = Q>, R: Wait>(rt: &R, table: &T, number: u64) -> Q
-    requires { (k v : ℕ) → T.holds k v }
-{
-    let mut seat = table.seat();
-    for place in 0..SHARE {
-        let key = number.wrapping_mul(SHARE).wrapping_add(place);
-        let _ = answer(rt, table, &mut seat, key, Call::Put(key));
-    }
-    seat
+    let found = right(rt, table, seat, &FOUND, &EACH_KEY);
+    let listed = listed(rt, alloc, table, seat, round.pairs);
+    found == round.found && listed == round.pairs && table.len(rt) == round.pairs
 }
