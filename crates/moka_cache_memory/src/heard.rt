@@ -2,6 +2,7 @@
 
 use futures::task::{Context, Poll};
 use moka_cache::{Listener, ListenerEnd};
+use moka_cache_runs::caches::HearsAny;
 use moka_hist::Cause;
 use std::alloc::{AllocError, Global};
 use std::cell::Cell;
@@ -91,4 +92,8 @@ impl Listener<u32, u32> for NotingListener {
         }
         cx.yield_now()
     }
+}
+
+impl HearsAny for NotingListener {
+    ghost hears_any = { λ listener key value. tt };
 }

@@ -10,7 +10,7 @@ use std::sync::atomic::{AtomicU64, Ordering};
 use std::time::Duration;
 
 /// A listener of a cache of numbers, which hears whatever leaves.
-pub(crate) trait HearsAny: Listener<u64, u64> {
+pub(crate) trait HearsAny: Listener<u64, u64> + 'static {
     /// It may be started with any key and value.
     ghost hears_any: { (listener : Self) (key : ℕ) (value : ℕ)
         → Self.Listener.hears listener key value };

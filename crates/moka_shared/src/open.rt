@@ -194,8 +194,10 @@ impl<
             of: PhantomData,
         })
     }
+}
 
-    /// Gives all nodes back. Each seat of the table stays what it was.
+impl<K: Eq + Hash + Drop, V: Drop, S: BuildHasher + Drop, P: Fact<K, V>> HashMap<K, V, S, P> {
+    /// Gives all nodes back, as to drop the table does. Each seat of the table stays what it was.
     pub fn close(self) {}
 }
 

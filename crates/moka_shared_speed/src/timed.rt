@@ -23,7 +23,7 @@ pub(crate) fn on_table<R: Threads + Clock + Print + Eprint + Sync>(
         return false;
     };
     let is_told = on_lent(rt, alloc, asked, &table);
-    drop(table);
+    table.close();
     is_told
 }
 
