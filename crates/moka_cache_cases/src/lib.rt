@@ -22,8 +22,6 @@ mod finding;
 #[cfg(test)]
 mod giving;
 #[cfg(test)]
-mod hashing;
-#[cfg(test)]
 mod invalidating;
 #[cfg(test)]
 mod loading;

@@ -4,12 +4,16 @@
 //! `moka_hash_speed HASHER KEYS NUMBER` finds so many keys that fall together, by trying. Then it
 //! stores these, where KEYS is `together`, or as many others, where it is `apart`, in a cache of
 //! the fixed seed, or of a `RandomState`, where HASHER is `random`. With another word of KEYS it
-//! stores none. Standard output has how many keys were found and how many were stored.
+//! stores none. Where HASHER is `each`, it plays calls with them on a cache of the fixed seed and
+//! on two of a `RandomState`. Standard output has how many keys were found, and how many were
+//! stored, or whether all three caches answered the same.
 #![tactic(auto)]
 
+mod answering;
 mod keys;
 mod storing;
 
+use answering::answers;
 use moka_cache::{Cache, CacheBuilder, NoListener};
 use std::alloc::{AllocError, AllocGlobal, Global};
 use std::hash::RandomState;
@@ -51,6 +55,10 @@ fn measure<R: Wait + RandomSource + AllocGlobal + Print>(
         "apart" => keys::apart(rt.alloc(), number)?,
         _ => Vec::new(rt.alloc()),
     };
+    if word_at(words, 0) == "each" {
+        let is_alike = answer_alike(rt, chosen.as_slice())?;
+        return println!(rt; "alike {is_alike}");
+    }
     let stored = store(rt, word_at(words, 0), chosen.as_slice())?;
     println!(rt; "stored {stored}")
 }
@@ -67,6 +75,16 @@ fn store<R: Wait + RandomSource + AllocGlobal>(
     }
     let cache: Cache<u64, u64> = Cache::new(rt.alloc(), u64::MAX)?;
     store_all(rt, &cache, keys)
+}
+
+/// Plays the calls of these keys on a cache of the fixed seed and on two of a `RandomState`, and
+/// tells whether all answered the same.
+fn answer_alike<R: Wait + RandomSource + AllocGlobal>(rt: &R, keys: &[u64]) -> io::Result<bool> {
+    let fixed: Cache<u64, u64> = Cache::new(rt.alloc(), u64::MAX)?;
+    let first = random_cache(rt.alloc(), RandomState::new(rt)?)?;
+    let second = random_cache(rt.alloc(), RandomState::new(rt)?)?;
+    let answered = answers(rt, &fixed, keys)?;
+    Ok(answers(rt, &first, keys)? == answered && answers(rt, &second, keys)? == answered)
 }
 
 /// Makes an empty cache that hashes by this seed.
