@@ -14,8 +14,8 @@ mod keys;
 mod storing;
 
 use answering::answers;
-use moka_cache::{Cache, CacheBuilder, NoListener};
-use std::alloc::{AllocError, AllocGlobal, Global};
+use moka_cache::{BuildError, Cache, CacheBuilder, NoListener};
+use std::alloc::{AllocGlobal, Global};
 use std::hash::RandomState;
 use std::process::ExitCode;
 use std::random::RandomSource;
@@ -88,11 +88,8 @@ fn answer_alike<R: Wait + RandomSource + AllocGlobal>(rt: &R, keys: &[u64]) -> i
 }
 
 /// Makes an empty cache that hashes by this seed.
-fn random_cache(alloc: Global, seed: RandomState) -> Result<Random, AllocError> {
-    match CacheBuilder::new(u64::MAX).build_with_hasher(alloc, seed) {
-        Ok(cache) => Ok(cache),
-        Err(_) => Err(AllocError),
-    }
+fn random_cache(alloc: Global, seed: RandomState) -> Result<Random, BuildError> {
+    CacheBuilder::new(u64::MAX).build_with_hasher(alloc, seed)
 }
 
 /// The words of the command line after the program's name.
