@@ -8,11 +8,13 @@ use Rattle.moka_growth.specs.Maps.{IsElsewhere}
 use Rattle.moka_pairs.specs.Keys.{Agrees, Respects}
 use Rattle.moka_history.specs.declared.note.Note.TheVariants.{Announced}
 use Rattle.moka_history.specs.Entries.{Entry}
-use Rattle.moka_history.specs.States.{Door, Bucket, Ticket, State, IsPlaced, after, memory_of, words_in}
+use Rattle.moka_history.specs.States.{Door, Bucket, Ticket, Array, Row, State, IsPlaced, after, memory_of, words_in}
 use Rattle.moka_history.specs.Rules.{WasPut, IsOwned, IsDrawn, IsGood, Lasts}
 use Rattle.moka_history.proofs.Cells.{announced_keeps}
 use Rattle.moka_history.proofs.Lists.{no_item, one_item, front_get, more_get}
 use Rattle.moka_history.proofs.Named.{word_names}
+use Rattle.moka_history.proofs.Owners.{array_not_ticket, row_not_ticket}
+use Rattle.moka_pairs.proofs.Names.{agrees_now}
 use Rattle.moka_history.proofs.Resting.{rests_sound, rests_later, rests_map}
 
 door_not_ticket : {n : ℕ} {b : Bool} → Door ≡ Ticket n b → ⊥
@@ -48,6 +50,18 @@ module _ {K V : Type 0} (S : Type 0) (eq : K → K → Bool) (laws : IsEquivalen
   elsewhere : (i : ℕ) → IsElsewhere (memory_of s i) (memory_of drawn_state i)
   elsewhere i = record { words = λ p a e. words.0 a; arrays = refl; rooted = refl; fresh = omega arith }
 
+  array_was : (k n : ℕ) (b : Bool) → slice_get drawn_state.cells k ≡ Some (Array n b) → slice_get s.cells k ≡ Some (Array n b)
+  array_was k n b at = elim (more_get s.cells (Ticket ticket false) k (Array n b) at) [
+    | inl old ↦ old
+    | inr new ↦ absurd (array_not_ticket new.1)
+  ]
+
+  row_was : (k n : ℕ) (b : Bool) → slice_get drawn_state.cells k ≡ Some (Row n b) → slice_get s.cells k ≡ Some (Row n b)
+  row_was k n b at = elim (more_get s.cells (Ticket ticket false) k (Row n b) at) [
+    | inl old ↦ old
+    | inr new ↦ absurd (row_not_ticket new.1)
+  ]
+
   later_owned : IsOwned drawn_state
   later_owned = record {
     door = λ k. (
@@ -69,6 +83,7 @@ module _ {K V : Type 0} (S : Type 0) (eq : K → K → Bool) (laws : IsEquivalen
         | inr new_yet ↦ new.0 ∙ sym new_yet.0
       ]
     ];
+    arrays = λ j k n b c e f. owned.arrays j k n b c (array_was j n b e) (array_was k n c f);
   }
     where
       past : (n k : ℕ) (b : Bool) → slice_get s.cells k ≡ Some (Ticket n b) → n ≡ ticket → ⊥
@@ -91,6 +106,9 @@ module _ {K V : Type 0} (S : Type 0) (eq : K → K → Bool) (laws : IsEquivalen
     ];
     entries = λ n high. drawn.entries n (omega (arith, is, high));
     once = drawn.once;
+    announced = λ k n home at. drawn.announced k n home (array_was k n home at);
+    rows = λ k n home at. drawn.rows k n home (row_was k n home at);
+    planned = λ n high. drawn.planned n (omega (arith, is, high));
   }
 
   pub announced_good : IsGood eq hash place drawn_state es
@@ -117,6 +135,9 @@ module _ {K V : Type 0} (S : Type 0) (eq : K → K → Bool) (laws : IsEquivalen
     last = omega (arith, is);
     arrays = λ a i k e. e;
     tickets = λ k n b e. (b, front_get s.cells (Ticket ticket false ∷ []) k (Ticket n b) e, λ h. h);
+    announced = λ k n b e. (b, front_get s.cells (Ticket ticket false ∷ []) k (Array n b) e, λ h. h);
+    rows = λ k n b e. (b, front_get s.cells (Ticket ticket false ∷ []) k (Row n b) e, λ h. h);
     pairs = grows;
+    plans = agrees_now s.plans;
     later = λ i below. rests_later eq laws hash place respects s drawn_state grows i (good.sound i below) (elsewhere i);
   }

@@ -11,7 +11,8 @@ use Rattle.moka_words.specs.declared.words.Word.{Word}
 use Rattle.moka_words.specs.declared.words.Word.TheVariants.{Empty, Live, Tomb}
 use Rattle.moka_words.specs.declared.accesses.Seen.{Seen}
 use Rattle.moka_words.specs.declared.accesses.Seen.TheVariants as seen
-use Rattle.moka_words.specs.Words.{node_of, stored_in, word_at}
+use Rattle.moka_words.proofs.Lasts.{set_cases}
+use Rattle.moka_words.specs.Words.{is_sealed, node_of, stored_in, word_at}
 use Rattle.moka_words.specs.Arrays.{bucket_at}
 use Rattle.moka_words.specs.Effect.{Memory, Effect, SetsWord}
 use Rattle.moka_growth.specs.Calls.{Call, Changed as ends_changed, access_of, next_at, wanted}
@@ -26,7 +27,7 @@ use Rattle.moka_pairs.proofs.Divided.{segment_are}
 use Rattle.moka_pairs.proofs.Steps.{ends_after, later_after, sound_after}
 use Rattle.moka_history.specs.declared.note.Note.TheVariants.{Changed}
 use Rattle.moka_history.specs.Entries.{Entry, map_after, pair_put}
-use Rattle.moka_history.specs.States.{Owner, Door, Bucket, Ticket, State, IsPlaced, after, key_at, memory_of, spent, word_in, words_in}
+use Rattle.moka_history.specs.States.{Owner, Door, Bucket, Ticket, Array, Row, State, IsPlaced, after, key_at, memory_of, spent, word_in, words_in}
 use Rattle.moka_history.specs.Logs.{entry_of, entry_with}
 use Rattle.moka_history.specs.Cells.{cell_of, number_of}
 use Rattle.moka_history.specs.Rules.{WasPut, made_on, keys_of, pair_in, IsOwned, IsDrawn, IsGood, Lasts}
@@ -34,7 +35,7 @@ use Rattle.moka_history.specs.Keeping.{Exchanges}
 use Rattle.moka_history.proofs.Cells.{changed_sets, key_there}
 use Rattle.moka_history.proofs.Lists.{no_item, one_item, front_get, get_below, get_or, last_get, set_get, map_more as maps_more, times_more}
 use Rattle.moka_history.proofs.Maps.{change_is, legal_more, map_more, named_pair}
-use Rattle.moka_history.proofs.Owners.{bucket_is_no_ticket, changed_cells, door_is_no_bucket, changed_here, changed_other, changed_from, unspent_door, unspent_ticket}
+use Rattle.moka_history.proofs.Owners.{bucket_is_no_ticket, changed_cells, door_is_no_bucket, changed_here, changed_other, changed_from, unspent_array, unspent_door, unspent_row, unspent_ticket, array_not_bucket, row_not_bucket, array_not_ticket, row_not_ticket}
 use Rattle.moka_history.proofs.Resting.{rests_sound, rests_later, rests_map}
 
 not_door : {w : Word} → Door ≡ Bucket w → ⊥
@@ -66,6 +67,14 @@ change_stores own (Tomb m) (Live k) h n e = inl e
 change_stores own (Live m) (Live k) h n e = inl e
 change_stores own (Live m) (Tomb k) h n e = inr (ap Some h.1 ∙ e)
 change_stores own from to h n e = absurd h
+
+-- and it isn't sealed
+change_open : (own : ℕ → Bool) (from to : Word) → IsChange own from to → is_sealed to ≡ false
+change_open own Empty (Live k) h = refl
+change_open own (Tomb m) (Live k) h = refl
+change_open own (Live m) (Live k) h = refl
+change_open own (Live m) (Tomb k) h = refl
+change_open own from to h = absurd h
 
 module _ {K V : Type 0} (S : Type 0) (eq : K → K → Bool) (laws : IsEquivalence eq) (hash place : K → ℕ) (respects : Respects eq hash)
     (alike : Respects eq place) (s : State K V) (es : List (Entry K V)) (good : IsGood eq hash place s es) (key : K) (c : Call)
@@ -298,6 +307,9 @@ module _ {K V : Type 0} (S : Type 0) (eq : K → K → Bool) (laws : IsEquivalen
   pub ticket_only : (k : ℕ) (b : Bool) → slice_get s.cells k ≡ Some (Ticket ticket b) → k ≡ own
   ticket_only k b at = owned.tickets k own ticket b false at there
 
+  no_bucket : (k : ℕ) (o : Owner) → slice_get s.cells k ≡ Some o → ((w : Word) → o ≡ Bucket w → ⊥) → k ≢ bucket
+  no_bucket k o at other same = other bucket_is.0 (one_item (sym at ∙ (ap (slice_get s.cells) same ∙ bucket_is.1)))
+
   from_cell : (k : ℕ) (o : Owner) → slice_get changed_state.cells k ≡ Some o → o ≢ Bucket to → (p : Owner) × (slice_get s.cells k ≡ Some p) × (o ≡ spent ticket p)
   from_cell k o at other = elim (changed_from ticket bucket to s.cells bucket_below k o at) [
     | inl p ↦ absurd (other p.1)
@@ -310,6 +322,16 @@ module _ {K V : Type 0} (S : Type 0) (eq : K → K → Bool) (laws : IsEquivalen
       let (p, was, is) = from_cell k (Ticket n b) at (λ e. not_ticket e) in
       let (a, ticket_is, home) = unspent_ticket ticket p n b is in
       (a, was ∙ ap Some ticket_is, home)
+
+  from_array : (k n : ℕ) (b : Bool) → slice_get changed_state.cells k ≡ Some (Array n b) → slice_get s.cells k ≡ Some (Array n b)
+  from_array k n b at =
+      let (p, was, is) = from_cell k (Array n b) at (λ e. array_not_bucket e) in
+      was ∙ ap Some (unspent_array ticket p n b is)
+
+  from_row : (k n : ℕ) (b : Bool) → slice_get changed_state.cells k ≡ Some (Row n b) → slice_get s.cells k ≡ Some (Row n b)
+  from_row k n b at =
+      let (p, was, is) = from_cell k (Row n b) at (λ e. row_not_bucket e) in
+      was ∙ ap Some (unspent_row ticket p n b is)
 
   changed_bucket : (k : ℕ) (w : Word) → slice_get s.cells k ≡ Some (Bucket w) → (v : Word) × (slice_get changed_state.cells k ≡ Some (Bucket v))
   changed_bucket k w at = elim (eqb_tells k bucket) [
@@ -327,6 +349,7 @@ module _ {K V : Type 0} (S : Type 0) (eq : K → K → Bool) (laws : IsEquivalen
     buckets = λ a i k e. (let (w, at) = owned.buckets a i k e in changed_bucket k w at);
     places = (sets here).1;
     tickets = λ j k n b d e f. owned.tickets j k n (from_ticket j n b e).0 (from_ticket k n d f).0 (from_ticket j n b e).1 (from_ticket k n d f).1;
+    arrays = λ j k n b d e f. owned.arrays j k n b d (from_array j n b e) (from_array k n d f);
   }
 
   -- the entries of tickets
@@ -357,6 +380,9 @@ module _ {K V : Type 0} (S : Type 0) (eq : K → K → Bool) (laws : IsEquivalen
           (let none = ap (λ m. made_on m es) p.1 ∙ unmade in omega (arith, none))
       | inr p ↦ subst (λ b. cond b (made_on n es + 1) (made_on n es) ≤ 1) (sym p.0) (drawn.once n)
     ]);
+    announced = λ k n home at. drawn.announced k n home (from_array k n home at);
+    rows = λ k n home at. drawn.rows k n home (from_row k n home at);
+    planned = drawn.planned;
   }
     where
       cells_by : (k n : ℕ) (a home : Bool) → slice_get s.cells k ≡ Some (Ticket n a) → home ≡ cond (n == ticket) true a → (b : Bool) → (n == ticket) ≡ b →
@@ -390,13 +416,29 @@ module _ {K V : Type 0} (S : Type 0) (eq : K → K → Bool) (laws : IsEquivalen
       changed_other ticket bucket to s.cells k (Ticket n b) (ticket_apart k n b at) at,
       λ home. home_by (n == ticket) b home,
     );
+    announced = λ k n b at. (b, changed_other ticket bucket to s.cells k (Array n b) (no_bucket k (Array n b) at (λ w e. array_not_bucket e)) at, λ h. h);
+    rows = λ k n b at. (b, changed_other ticket bucket to s.cells k (Row n b) (no_bucket k (Row n b) at (λ w e. row_not_bucket e)) at, λ h. h);
     pairs = agrees_now s.pairs;
+    plans = agrees_now s.plans;
     later = there_later;
   }
     where
       home_by : (x y : Bool) → y ≡ true → cond x true y ≡ true
       home_by true y e = refl
       home_by false y e = e
+
+  -- a word after it is as it was, or isn't sealed
+  pub changed_words : (a j : ℕ) → (word_at (words_in changed_state a) j ≡ word_at (words_in s a) j) ⊎ (is_sealed (word_at (words_in changed_state a) j) ≡ false)
+  changed_words a j = elim (eqb_tells a array) [
+    | inl p ↦ subst (λ b. (word_at (words_in changed_state b) j ≡ word_at (words_in s b) j) ⊎ (is_sealed (word_at (words_in changed_state b) j) ≡ false))
+        (sym p.1) here_words
+    | inr p ↦ inl (ap (λ ws. word_at ws j) ((sets here).0.1 a p.1))
+  ]
+    where
+      here_words : (word_at (words_in changed_state array) j ≡ word_at (words_in s array) j) ⊎ (is_sealed (word_at (words_in changed_state array) j) ≡ false)
+      here_words = subst (λ ws. (word_at ws j ≡ word_at (words_in s array) j) ⊎ (is_sealed (word_at ws j) ≡ false)) (sym (sets here).0.0)
+          (set_cases (λ v. (v ≡ word_at (words_in s array) j) ⊎ (is_sealed v ≡ false)) (words_in s array) index to j (inl refl)
+          (λ e. inr (change_open (own_by eq known key) from to fits.1)))
 
   -- all of it: the key of the new word's node, its entry, what is good and lasts, and the cells
   pub exchanged : (k : K) × (option_map (λ p. p.0) (pair_at s.pairs (node_of to)) ≡ Some k) × (eq key k ≡ true)

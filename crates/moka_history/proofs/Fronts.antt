@@ -1,5 +1,5 @@
 -- Kept logs: their fronts, their words, and what calls find after them.
-use Rattle.std.proofs.Common.{◌≡◌, ◌≢◌, ℕ, ◌+◌, ◌*◌, ◌^◌, ◌<◌, ◌≤◌, ◌==◌, Bool, true, false, cond, List, [], ◌∷◌, ◌++◌, map, length, Option, Some, None, zero, suc, inl, inr, refl, sym, ap, subst, ◌∙◌, arith, if◌then◌else◌}
+use Rattle.std.proofs.Common.{◌≡◌, ◌≢◌, ◌⊎◌, ℕ, ◌+◌, ◌*◌, ◌^◌, ◌<◌, ◌≤◌, ◌==◌, Bool, true, false, cond, List, [], ◌∷◌, ◌++◌, map, length, Option, Some, None, zero, suc, inl, inr, refl, sym, ap, subst, ◌∙◌, arith, if◌then◌else◌}
 use Rattle.std.proofs.lemmas.Bool.{cases_lt, eq-eqb, false≢true, lt-ltb}
 use Rattle.std.proofs.lemmas.List.{length-replicate}
 use Rattle.std.specs.List.{slice_get, range_with_len}
@@ -9,7 +9,7 @@ use mathlib.Core.List.{IsPrefix}
 use Rattle.logbook.specs.Pages.{Cell, cell}
 use Rattle.moka_hist.specs.Finite.{times}
 use Rattle.moka_words.specs.declared.words.Word.TheVariants.{Empty}
-use Rattle.moka_words.specs.Words.{node_of, word_at}
+use Rattle.moka_words.specs.Words.{is_sealed, node_of, word_at}
 use Rattle.moka_words.specs.Effect.{Memory}
 use Rattle.moka_growth.specs.Calls.{Call}
 use Rattle.moka_growth.specs.Fits.{Rests}
@@ -28,7 +28,7 @@ use Rattle.moka_history.specs.Entries.{Entry, map_after}
 use Rattle.moka_history.specs.States.{Door, Bucket, Ticket, State, first_keys, memory_of, word_in, word_of, words_in}
 use Rattle.moka_history.specs.Logs.{entries_of, state_of}
 use Rattle.moka_history.specs.Cells.{cell_of, cells_of, drawn, number_of}
-use Rattle.moka_history.specs.Rules.{made_on, keys_of, IsGood, Lasts, IsOpenedFor, IsFront, IsKept}
+use Rattle.moka_history.specs.Rules.{made_on, keys_of, IsGood, Lasts, IsOpenedFor, IsFront, NamesSeal, IsKept}
 use Rattle.moka_history.specs.Keeping.{ArePut, IsDivided}
 use Rattle.moka_history.proofs.Beginning.{words_are}
 use Rattle.moka_history.proofs.Folds.{entries_begin, entries_grow}
@@ -96,6 +96,11 @@ module _ {K V S : Type 0} (eq : K → K → Bool) (hash : S → K → ℕ) (plac
     some = subst (λ l. 0 < length l) (sym kept.opened.1) (omega arith);
     begins = prefix_self log;
   }
+
+  -- it names each seal
+  pub seals_now : (array index : ℕ) → is_sealed (word_at (words_in (state_of log) array) index) ≡ true →
+      NamesSeal array index (word_at (words_in (state_of log) array) index) log
+  seals_now = kept.seals log whole
 
   pub good_now : IsGood eq (hash kept.hasher) Place (state_of log) (entries_of log)
   good_now = kept.good log whole
@@ -186,6 +191,7 @@ module _ {K V S : Type 0} (eq : K → K → Bool) (hash : S → K → ℕ) (plac
       good = λ first at. kept.good first (record { some = at.some; begins = prefix_through first front log at.begins is.begins });
       lasts = λ first next at begins. kept.lasts first next at (prefix_through next front log begins is.begins);
       still = λ first next at begins. kept.still first next at (prefix_through next front log begins is.begins);
+      seals = λ first at. kept.seals first (record { some = at.some; begins = prefix_through first front log at.begins is.begins });
     }
 
     pub lasts_now : Lasts eq Place (state_of front) (state_of log)
@@ -201,12 +207,13 @@ module _ {K V S : Type 0} (eq : K → K → Bool) (hash : S → K → ℕ) (plac
         let once = good_now.drawn.once ticket in
         omega (arith, one, grown, all, once)
 
-    -- a word that isn't as it was has an entry
+    -- a word that isn't as it was is sealed, or has an entry
     pub entry_between : (array index : ℕ) → word_at (words_in (state_of log) array) index ≢ word_at (words_in (state_of front) array) index →
-        (e : Entry K V) × (slice_get (entries_of log) (length (entries_of front)) ≡ Some e)
-        × ((own ticket : ℕ) → slice_get (state_of log).cells own ≡ Some (Ticket ticket false) → e.ticket ≢ ticket)
+        (is_sealed (word_at (words_in (state_of log) array) index) ≡ true)
+        ⊎ ((e : Entry K V) × (slice_get (entries_of log) (length (entries_of front)) ≡ Some e)
+        × ((own ticket : ℕ) → slice_get (state_of log).cells own ≡ Some (Ticket ticket false) → e.ticket ≢ ticket))
     entry_between array index differs = elim (cases_lt (length (entries_of front)) (length (entries_of log))) [
-      | inl less ↦ (let (e, at) = item_at (entries_of log) (length (entries_of front)) less in (
+      | inl less ↦ inr (let (e, at) = item_at (entries_of log) (length (entries_of front)) less in (
         e,
         at,
         λ own ticket there same.
@@ -214,8 +221,11 @@ module _ {K V S : Type 0} (eq : K → K → Bool) (hash : S → K → ℕ) (plac
             let none = (good_now.drawn.cells own ticket false there).1 in
             omega (arith, some, none),
       ))
-      | inr more ↦ absurd (differs (ap (λ ws. word_at ws index) (kept.still front log is (prefix_self log)
-          (let grown = entries_grow front log is.begins in omega (arith, more, grown)) array)))
+      | inr more ↦ elim (kept.still front log is (prefix_self log)
+          (let grown = entries_grow front log is.begins in omega (arith, more, grown)) array index) [
+            | inl same ↦ absurd (differs same)
+            | inr sealed ↦ inl sealed
+          ]
     ]
 
     -- a call that fitted fits

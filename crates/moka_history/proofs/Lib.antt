@@ -7,9 +7,14 @@ pub mod Numbers
 pub mod Owners
 pub mod Named
 pub mod Resting
+pub mod Quiet
+pub mod Rows
+pub mod Sealing
 pub mod Announcing
 pub mod Exchanged
 pub mod Opening
 pub mod Fronts
 pub mod Stepping
+pub mod Steps
 pub mod Plays
+pub mod Moves

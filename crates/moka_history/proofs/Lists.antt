@@ -1,5 +1,6 @@
 -- Lists by their places, and the fronts of a list.
 use Rattle.std.proofs.Common.{◌≡◌, ◌≢◌, ◌⊎◌, ℕ, ◌+◌, ◌<◌, ◌==◌, Bool, true, false, cond, List, [], ◌∷◌, ◌++◌, map, length, set, Some, None, zero, suc, inl, inr, refl, sym, ap, ◌∙◌, arith, append_assoc, slice_index_or}
+use Rattle.std.proofs.lemmas.Bool.Decides.{eqb_tells}
 use Rattle.std.proofs.lemmas.List.{append-nil}
 use Rattle.std.specs.List.{slice_get}
 use Rattle.std.specs.Option.{option_map}
@@ -34,6 +35,14 @@ module _ {A : Type 0} where
   other_get (y ∷ xs) zero (suc j) x other = refl
   other_get (y ∷ xs) (suc k) zero x other = refl
   other_get (y ∷ xs) (suc k) (suc j) x other = other_get xs k j x (λ e. other (ap suc e))
+
+  -- what stands in a list in which an item was set
+  pub set_from : (xs : List A) (k : ℕ) (x : A) → k < length xs → (j : ℕ) (y : A) → slice_get (set xs k x) j ≡ Some y →
+      ((j ≡ k) × (y ≡ x)) ⊎ ((j ≢ k) × (slice_get xs j ≡ Some y))
+  set_from xs k x below j y at = elim (eqb_tells j k) [
+    | inl p ↦ inl (p.1, one_item (sym at ∙ (ap (slice_get (set xs k x)) p.1 ∙ set_get xs k x below)))
+    | inr p ↦ inr (p.1, sym (other_get xs k j x p.1) ∙ at)
+  ]
 
   pub front_get : (xs ys : List A) (k : ℕ) (x : A) → slice_get xs k ≡ Some x → slice_get (xs ++ ys) k ≡ Some x
   front_get [] ys k x e = absurd (no_item e)

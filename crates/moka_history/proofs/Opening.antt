@@ -1,23 +1,25 @@
 -- The book of a table that was just opened keeps the rule.
-use Rattle.std.proofs.Common.{◌≡◌, ℕ, ◌-◌, ◌*◌, ◌^◌, ◌<◌, ◌≤◌, Bool, true, List, [], ◌∷◌, map, length, replicate, Option, Some, None, zero, suc, inl, inr, refl, sym, ap, subst, ◌∙◌, arith, length-append}
+use Rattle.std.proofs.Common.{◌≡◌, ℕ, ◌+◌, ◌-◌, ◌*◌, ◌^◌, ◌<◌, ◌≤◌, Bool, true, false, if◌then◌else◌, List, [], ◌∷◌, map, length, replicate, Option, Some, None, zero, suc, inl, inr, refl, sym, ap, subst, ◌∙◌, arith, length-append}
+use Rattle.std.proofs.lemmas.Bool.{cases_lt, false≢true, le-ltb}
 use Rattle.std.specs.Int.{IsPowerOfTwo}
-use Rattle.std.specs.List.{slice_get, find}
+use Rattle.std.specs.List.{slice_get, find, range_with_len}
 use mathlib.Core.List.{IsPrefix}
 use Rattle.moka_words.specs.declared.words.Word.{Word}
 use Rattle.moka_words.specs.declared.words.Word.TheVariants.{Empty}
-use Rattle.moka_words.specs.Words.{node_of, word_at}
+use Rattle.moka_words.specs.Words.{is_sealed, node_of, word_at}
 use Rattle.moka_growth.specs.Maps.{present_nodes}
 use Rattle.moka_pairs.specs.Keys.{hash_by, same_by, mine_by, own_by}
 use Rattle.moka_pairs.specs.Pairs.{pair_at}
 use Rattle.moka_history.specs.declared.note.Note.{Note}
 use Rattle.moka_history.specs.declared.note.Note.TheVariants.{Opened}
-use Rattle.moka_history.specs.States.{Owner, Door, Bucket, Ticket, State, memory_of, words_in}
+use Rattle.moka_history.specs.States.{Owner, Door, Bucket, Ticket, Array, Row, State, memory_of, word_in, words_in}
 use Rattle.moka_history.specs.Logs.{entries_of, state_of}
 use Rattle.moka_history.specs.Cells.{cell_of}
 use Rattle.moka_history.specs.Rules.{keys_of, IsOwned, IsDrawn, IsGood, Lasts, IsFront, IsKept, Holds}
 use Rattle.moka_history.specs.Keeping.{IsDivided}
 use Rattle.moka_history.proofs.Beginning.{first_at, opened_is, placed, words_are}
 use Rattle.moka_history.proofs.Lists.{no_item, one_item, prefix_more, prefix_through}
+use Rattle.moka_history.proofs.Owners.{array_not_bucket, door_not_array, door_not_row, row_not_bucket}
 use Rattle.moka_history.proofs.Resting.{lasts_same}
 
 door_not_bucket : {w : Word} → Bucket w ≡ Door → ⊥
@@ -28,6 +30,12 @@ bucket_not_ticket e = absurd (cc (e))
 
 door_not_ticket : {n : ℕ} {b : Bool} → Door ≡ Ticket n b → ⊥
 door_not_ticket e = absurd (cc (e))
+
+bucket_not_array : {w : Word} {n : ℕ} {b : Bool} → Bucket w ≡ Array n b → ⊥
+bucket_not_array e = array_not_bucket (sym e)
+
+bucket_not_row : {w : Word} {n : ℕ} {b : Bool} → Bucket w ≡ Row n b → ⊥
+bucket_not_row e = row_not_bucket (sym e)
 
 -- the cells of buckets alone
 alike_at : {A : Type 0} (n k : ℕ) (x y : A) → slice_get (replicate n x) k ≡ Some y → x ≡ y
@@ -52,6 +60,11 @@ no_node : (n k : ℕ) → node_of (word_at (replicate n Empty) k) ≡ None
 no_node zero k = refl
 no_node (suc n) zero = refl
 no_node (suc n) (suc k) = no_node n k
+
+no_seal : (n k : ℕ) → is_sealed (word_at (replicate n Empty) k) ≡ false
+no_seal zero k = refl
+no_seal (suc n) zero = refl
+no_seal (suc n) (suc k) = no_seal n k
 
 no_pair : {K V : Type 0} (o : Option ℕ) → None ≡ pair_at {K = K} {V = V} (λ n. None) o
 no_pair None = refl
@@ -90,6 +103,28 @@ module _ {K : Type 0} (V : Type 0) {S : Type 0} (eq : K → K → Bool) (hash : 
   bucket_there (suc k) low below = alike_there (segments * size) k (Bucket Empty)
       (let long = alike_length (segments * size) (Bucket Empty) in omega (arith, below, long))
 
+  no_array : (k n : ℕ) (b : Bool) → slice_get opened.cells k ≡ Some (Array n b) → ⊥
+  no_array zero n b at = door_not_array (one_item at)
+  no_array (suc k) n b at = bucket_not_array (bucket_at_suc k (Array n b) at)
+
+  no_row : (k n : ℕ) (b : Bool) → slice_get opened.cells k ≡ Some (Row n b) → ⊥
+  no_row zero n b at = door_not_row (one_item at)
+  no_row (suc k) n b at = bucket_not_row (bucket_at_suc k (Row n b) at)
+
+  -- no word is sealed
+  bare : (a index : ℕ) → is_sealed (word_at (words_in opened a) index) ≡ true → ⊥
+  bare a index sealed = by a (words_in opened a) refl sealed
+    where
+      none_there : (i : ℕ) → segments ≤ i → words_in opened (suc i) ≡ []
+      none_there i more = ap (λ b. map (word_in opened.cells) (if b then range_with_len (1 + i * size) size else [])) (le-ltb i segments more)
+
+      by : (b : ℕ) (ws : List Word) → words_in opened b ≡ ws → is_sealed (word_at ws index) ≡ true → ⊥
+      by zero ws is h = false≢true (ap (λ xs. is_sealed (word_at xs index)) is ∙ h)
+      by (suc i) ws is h = elim (cases_lt i segments) [
+        | inl below ↦ false≢true (sym (no_seal size index) ∙ (ap (λ xs. is_sealed (word_at xs index)) (sym (words_are K V segments size hasher i below) ∙ is) ∙ h))
+        | inr more ↦ false≢true (ap (λ xs. is_sealed (word_at xs index)) (sym (none_there i more) ∙ is) ∙ h)
+      ]
+
   owned : IsOwned opened
   owned = record {
     door = λ k. (only_door k, λ e. subst (λ j. slice_get opened.cells j ≡ Some Door) (sym e) refl);
@@ -98,6 +133,7 @@ module _ {K : Type 0} (V : Type 0) {S : Type 0} (eq : K → K → Bool) (hash : 
         (Empty, bucket_there k (omega (arith, at)) ((placed K V segments size hasher).within a i k e));
     places = placed K V segments size hasher;
     tickets = λ j k n b c e f. absurd (no_ticket j n b e);
+    arrays = λ j k n b c e f. absurd (no_array j n b e);
   }
 
   drawn : IsDrawn opened []
@@ -108,6 +144,9 @@ module _ {K : Type 0} (V : Type 0) {S : Type 0} (eq : K → K → Bool) (hash : 
     pairs = λ n high. refl;
     entries = λ n high. refl;
     once = λ n. omega arith;
+    announced = λ k n home at. absurd (no_array k n home at);
+    rows = λ k n home at. absurd (no_row k n home at);
+    planned = λ n high. refl;
   }
 
   good : IsGood eq (hash hasher) Place opened []
@@ -133,10 +172,11 @@ module _ {K : Type 0} (V : Type 0) {S : Type 0} (eq : K → K → Bool) (hash : 
         let next_is = alone next (record { some = longer front next is; begins = begins }) in
         subst (λ l. Lasts eq Place (state_of front) (state_of l)) (front_is ∙ sym next_is)
         (lasts_same eq divided.laws (hash hasher) Place (divided.hashed hasher) (state_of front));
-    still = λ front next is begins equal array.
+    still = λ front next is begins equal array index.
         let front_is = alone front (record { some = is.some; begins = prefix_through front next first is.begins begins }) in
         let next_is = alone next (record { some = longer front next is; begins = begins }) in
-        ap (λ l. words_in (state_of l) array) (next_is ∙ sym front_is);
+        inl (ap (λ l. word_at (words_in (state_of l) array) index) (next_is ∙ sym front_is));
+    seals = λ front is array index sealed. absurd (bare array index (ap (λ l. is_sealed (word_at (words_in (state_of l) array) index)) (sym (alone front is)) ∙ sealed));
   }
     where
       alone : (front : List (Note K V S)) → IsFront front first → front ≡ first

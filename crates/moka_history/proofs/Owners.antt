@@ -6,7 +6,7 @@ use Rattle.std.specs.List.{slice_get}
 use Rattle.std.specs.Option.{option_map}
 use Rattle.logbook.specs.Pages.{Cell, cell}
 use Rattle.moka_words.specs.declared.words.Word.{Word}
-use Rattle.moka_history.specs.States.{Owner, Door, Bucket, Ticket, spent}
+use Rattle.moka_history.specs.States.{Owner, Door, Bucket, Ticket, Array, Row, spent}
 use Rattle.moka_history.specs.Cells.{number_of, cell_of}
 use Rattle.moka_history.proofs.Lists.{no_item, one_item, set_get, other_get, unmap_get, map_get, map_set}
 
@@ -25,6 +25,33 @@ door_not_ticket e = absurd (cc (e))
 door_not_bucket : {w : Word} → Door ≡ Bucket w → ⊥
 door_not_bucket e = absurd (cc (e))
 
+pub door_not_array : {n : ℕ} {b : Bool} → Door ≡ Array n b → ⊥
+door_not_array e = absurd (cc (e))
+
+pub door_not_row : {n : ℕ} {b : Bool} → Door ≡ Row n b → ⊥
+door_not_row e = absurd (cc (e))
+
+pub array_not_bucket : {w : Word} {n : ℕ} {b : Bool} → Array n b ≡ Bucket w → ⊥
+array_not_bucket e = absurd (cc (e))
+
+pub row_not_bucket : {w : Word} {n : ℕ} {b : Bool} → Row n b ≡ Bucket w → ⊥
+row_not_bucket e = absurd (cc (e))
+
+pub array_not_ticket : {n m : ℕ} {b c : Bool} → Array n b ≡ Ticket m c → ⊥
+array_not_ticket e = absurd (cc (e))
+
+pub row_not_ticket : {n m : ℕ} {b c : Bool} → Row n b ≡ Ticket m c → ⊥
+row_not_ticket e = absurd (cc (e))
+
+pub array_not_row : {n m : ℕ} {b c : Bool} → Array n b ≡ Row m c → ⊥
+array_not_row e = absurd (cc (e))
+
+pub row_is_row : {n m : ℕ} {b c : Bool} → Row n b ≡ Row m c → (n ≡ m) × (b ≡ c)
+row_is_row e = (cc (e), cc (e))
+
+pub array_is_array : {n m : ℕ} {b c : Bool} → Array n b ≡ Array m c → (n ≡ m) × (b ≡ c)
+array_is_array e = (cc (e), cc (e))
+
 pub bucket_is_no_ticket : {w : Word} {n : ℕ} {b : Bool} → Some (Bucket w) ≡ Some (Ticket n b) → ⊥
 bucket_is_no_ticket e = not_ticket (one_item e)
 
@@ -40,6 +67,8 @@ others_stay [] d e none = refl
 others_stay (Door ∷ os) d e none = absurd (none 0 refl)
 others_stay (Bucket w ∷ os) d e none = ap (λ cs. (number_of w, true) ∷ cs) (others_stay os d e (λ k. none (suc k)))
 others_stay (Ticket n b ∷ os) d e none = ap (λ cs. (0, b) ∷ cs) (others_stay os d e (λ k. none (suc k)))
+others_stay (Array n b ∷ os) d e none = ap (λ cs. (0, b) ∷ cs) (others_stay os d e (λ k. none (suc k)))
+others_stay (Row n b ∷ os) d e none = ap (λ cs. (cond b 1 0, b) ∷ cs) (others_stay os d e (λ k. none (suc k)))
 
 -- the door's cell counts another number
 pub door_counts : (os : List Owner) (d e : ℕ) → slice_get os 0 ≡ Some Door → ((k : ℕ) → slice_get os k ≡ Some Door → k ≡ 0) →
@@ -57,6 +86,8 @@ module _ (t : ℕ) where
     | inl p ↦ absurd (other b (ap (λ m. Ticket m b) p.1))
     | inr p ↦ ap (λ x. Ticket n (cond x true b)) p.0
   ]
+  spent_other (Array n b) other = refl
+  spent_other (Row n b) other = refl
 
   all_other : (os : List Owner) → ((k : ℕ) (b : Bool) → slice_get os k ≡ Some (Ticket t b) → ⊥) → map (spent t) os ≡ os
   all_other [] none = refl
@@ -81,14 +112,32 @@ module _ (t : ℕ) where
   unspent_door Door e = refl
   unspent_door (Bucket w) e = absurd (door_not_bucket e)
   unspent_door (Ticket n b) e = absurd (door_not_ticket e)
+  unspent_door (Array n b) e = absurd (door_not_array e)
+  unspent_door (Row n b) e = absurd (door_not_row e)
 
   pub unspent_ticket : (o : Owner) (n : ℕ) (b : Bool) → Ticket n b ≡ spent t o → (c : Bool) × (o ≡ Ticket n c) × (b ≡ cond (n == t) true c)
   unspent_ticket Door n b e = absurd (door_not_ticket (sym e))
   unspent_ticket (Bucket w) n b e = absurd (not_ticket (sym e))
+  unspent_ticket (Array m c) n b e = absurd (array_not_ticket (sym e))
+  unspent_ticket (Row m c) n b e = absurd (row_not_ticket (sym e))
   unspent_ticket (Ticket m c) n b e = by (cc (e)) (cc (e))
     where
       by : n ≡ m → b ≡ cond (m == t) true c → (c' : Bool) × (Ticket m c ≡ Ticket n c') × (b ≡ cond (n == t) true c')
       by same is = (c, ap (λ x. Ticket x c) (sym same), is ∙ ap (λ x. cond (x == t) true c) (sym same))
+
+  pub unspent_array : (o : Owner) (n : ℕ) (b : Bool) → Array n b ≡ spent t o → o ≡ Array n b
+  unspent_array Door n b e = absurd (door_not_array (sym e))
+  unspent_array (Bucket w) n b e = absurd (array_not_bucket e)
+  unspent_array (Ticket m c) n b e = absurd (array_not_ticket e)
+  unspent_array (Array m c) n b e = sym e
+  unspent_array (Row m c) n b e = absurd (array_not_row e)
+
+  pub unspent_row : (o : Owner) (n : ℕ) (b : Bool) → Row n b ≡ spent t o → o ≡ Row n b
+  unspent_row Door n b e = absurd (door_not_row (sym e))
+  unspent_row (Bucket w) n b e = absurd (row_not_bucket e)
+  unspent_row (Ticket m c) n b e = absurd (row_not_ticket e)
+  unspent_row (Array m c) n b e = absurd (array_not_row (sym e))
+  unspent_row (Row m c) n b e = sym e
 
 -- the owners after a change of the bucket k
 module _ (t k : ℕ) (to : Word) (os : List Owner) where

@@ -1,7 +1,10 @@
 -- Segments whose words a step leaves, and what lasts through steps.
-use Rattle.std.proofs.Common.{◌≡◌, ℕ, ◌<◌, ◌==◌, Bool, List, [], ◌∷◌, ◌++◌, length, Option, inl, inr, refl, sym, ap, subst, ◌∙◌, arith}
+use Rattle.std.proofs.Common.{◌≡◌, ℕ, ◌<◌, ◌==◌, Bool, true, List, [], ◌∷◌, ◌++◌, length, Option, Some, inl, inr, refl, sym, ap, subst, ◌∙◌, arith}
 use Rattle.std.specs.Cmp.{IsEquivalence}
 use mathlib.Core.List.{IsPrefix}
+use Rattle.std.specs.List.{slice_get}
+use Rattle.moka_words.specs.declared.words.Word.{Word}
+use Rattle.moka_words.specs.Words.{is_sealed, word_at}
 use Rattle.moka_words.specs.Effect.{LaterMemory}
 use Rattle.moka_growth.specs.Sound.{IsSound}
 use Rattle.moka_growth.specs.Maps.{KeepsMap, IsElsewhere}
@@ -15,12 +18,13 @@ use Rattle.moka_pairs.proofs.Grown.{map_grown}
 use Rattle.moka_pairs.proofs.Mapped.{map_kept}
 use Rattle.moka_pairs.proofs.Steps.{later_same}
 use Rattle.moka_history.specs.declared.note.Note.{Note}
+use Rattle.moka_history.specs.declared.note.Note.TheVariants.{Sealed}
 use Rattle.moka_history.specs.States.{State, memory_of, words_in}
 use Rattle.moka_history.specs.Logs.{entries_of, state_of}
-use Rattle.moka_history.specs.Rules.{keys_of, pair_in, IsGood, Lasts, IsFront, IsKept}
+use Rattle.moka_history.specs.Rules.{keys_of, pair_in, IsGood, Lasts, IsFront, IsSameOrSealed, NamesSeal, IsKept}
 use Rattle.moka_history.specs.Keeping.{IsDivided}
 use Rattle.moka_history.proofs.Folds.{entries_grow}
-use Rattle.moka_history.proofs.Lists.{prefix_more, prefix_self}
+use Rattle.moka_history.proofs.Lists.{front_get, prefix_more, prefix_self}
 
 module _ {K V : Type 0} (eq : K → K → Bool) (laws : IsEquivalence eq) (hash place : K → ℕ) (respects : Respects eq hash) where
   -- a segment that a step leaves stays sound, and its map as it was, while more numbers get pairs
@@ -54,7 +58,10 @@ module _ {K V : Type 0} (eq : K → K → Bool) (laws : IsEquivalence eq) (hash 
     last = omega arith;
     arrays = λ a i k e. e;
     tickets = λ k n b e. (b, e, λ h. h);
+    announced = λ k n b e. (b, e, λ h. h);
+    rows = λ k n b e. (b, e, λ h. h);
     pairs = agrees_now s.pairs;
+    plans = agrees_now s.plans;
     later = λ i below. later_same eq laws hash respects (keys_of place s i) (memory_of s i);
   }
 
@@ -67,13 +74,33 @@ module _ {K V : Type 0} (eq : K → K → Bool) (laws : IsEquivalence eq) (hash 
         let (y, at, home) = first.tickets k n x e in
         let (z, there, home_yet) = then.tickets k n y at in
         (z, there, λ h. home_yet (home h));
+    announced = λ k n x e.
+        let (y, at, home) = first.announced k n x e in
+        let (z, there, home_yet) = then.announced k n y at in
+        (z, there, λ h. home_yet (home h));
+    rows = λ k n x e.
+        let (y, at, home) = first.rows k n x e in
+        let (z, there, home_yet) = then.rows k n y at in
+        (z, there, λ h. home_yet (home h));
     pairs = agrees_through c.pairs b.pairs a.pairs then.pairs first.pairs;
+    plans = agrees_through c.plans b.plans a.plans then.plans first.plans;
     later = λ i below keys agrees. later_memory_goes_on (hash_by hash keys) (same_by eq keys) (memory_of a i) (memory_of b i) (memory_of c i)
         (names_keys eq laws hash respects keys)
         (first.later i below keys (agrees_through keys (keys_of place c i) (keys_of place b i) agrees
         (segment_grows (λ key. place key == i) c.pairs b.pairs then.pairs)))
         (then.later i (subst (λ n. i < n) (sym first.segments) below) keys agrees);
   }
+
+-- words that are as they were, or sealed, since before
+pub stays_through : (a b c : Word) → IsSameOrSealed a b → IsSameOrSealed b c → IsSameOrSealed a c
+stays_through a b c first (inr sealed) = inr sealed
+stays_through a b c (inl same) (inl same_yet) = inl (same_yet ∙ same)
+stays_through a b c (inr sealed) (inl same_yet) = inr (ap is_sealed same_yet ∙ sealed)
+
+-- a log that goes on names the seals that it named
+pub names_more : {K V S : Type 0} (log : List (Note K V S)) (note : Note K V S) (array index : ℕ) (w : Word) → NamesSeal array index w log →
+    NamesSeal array index w (log ++ note ∷ [])
+names_more log note array index w (n, at) = (n, front_get log (note ∷ []) n (Sealed array index w) at)
 
 -- a kept log stays kept with one note more, after which all is good and has lasted
 module _ {K V S : Type 0} (eq : K → K → Bool) (hash : S → K → ℕ) (place : S → ℕ → K → ℕ) (divided : IsDivided eq hash place)
@@ -85,7 +112,10 @@ module _ {K V S : Type 0} (eq : K → K → Bool) (hash : S → K → ℕ) (plac
   Longer = log ++ note ∷ []
 
   module _ (good : IsGood eq (hash kept.hasher) Place (state_of Longer) (entries_of Longer)) (lasts : Lasts eq Place (state_of log) (state_of Longer))
-      (rests_words : length (entries_of Longer) ≡ length (entries_of log) → (array : ℕ) → words_in (state_of Longer) array ≡ words_in (state_of log) array) where
+      (rests_words : length (entries_of Longer) ≡ length (entries_of log) → (array index : ℕ) →
+      IsSameOrSealed (word_at (words_in (state_of log) array) index) (word_at (words_in (state_of Longer) array) index))
+      (named : (array index : ℕ) → is_sealed (word_at (words_in (state_of Longer) array) index) ≡ true →
+      NamesSeal array index (word_at (words_in (state_of Longer) array) index) Longer) where
     same : (s : State K V) → Lasts eq Place s s
     same = lasts_same eq divided.laws (hash kept.hasher) Place (divided.hashed kept.hasher)
 
@@ -99,20 +129,25 @@ module _ {K V S : Type 0} (eq : K → K → Bool) (hash : S → K → ℕ) (plac
       | inr e ↦ subst (λ l. Lasts eq Place (state_of front) (state_of l)) e (same (state_of front))
     ]
 
-    -- words change by entries alone
-    still_log : (front : List (Note K V S)) → IsFront front log → length (entries_of Longer) ≡ length (entries_of front) → (array : ℕ) →
-        words_in (state_of Longer) array ≡ words_in (state_of front) array
-    still_log front is equal array =
+    -- words change by entries and seals alone
+    abbrev Stays : (front next : List (Note K V S)) (array index : ℕ) → Type 0
+    Stays front next array index = IsSameOrSealed (word_at (words_in (state_of front) array) index) (word_at (words_in (state_of next) array) index)
+
+    still_log : (front : List (Note K V S)) → IsFront front log → length (entries_of Longer) ≡ length (entries_of front) → (array index : ℕ) →
+        Stays front Longer array index
+    still_log front is equal array index =
         let some = entries_grow front log is.begins in
         let more = entries_grow log Longer (note ∷ [], refl) in
-        rests_words (omega (arith, equal, some, more)) array
-        ∙ kept.still front log is (prefix_self log) (omega (arith, equal, some, more)) array
+        stays_through (word_at (words_in (state_of front) array) index) (word_at (words_in (state_of log) array) index)
+        (word_at (words_in (state_of Longer) array) index)
+        (kept.still front log is (prefix_self log) (omega (arith, equal, some, more)) array index)
+        (rests_words (omega (arith, equal, some, more)) array index)
 
-    still_longer : (front : List (Note K V S)) → IsFront front Longer → length (entries_of Longer) ≡ length (entries_of front) → (array : ℕ) →
-        words_in (state_of Longer) array ≡ words_in (state_of front) array
-    still_longer front is equal array = elim (prefix_more front log note is.begins) [
-      | inl old ↦ still_log front (record { some = is.some; begins = old }) equal array
-      | inr e ↦ ap (λ l. words_in (state_of l) array) (sym e)
+    still_longer : (front : List (Note K V S)) → IsFront front Longer → length (entries_of Longer) ≡ length (entries_of front) → (array index : ℕ) →
+        Stays front Longer array index
+    still_longer front is equal array index = elim (prefix_more front log note is.begins) [
+      | inl old ↦ still_log front (record { some = is.some; begins = old }) equal array index
+      | inr e ↦ inl (ap (λ l. word_at (words_in (state_of l) array) index) (sym e))
     ]
 
     pub longer_kept : IsKept eq hash place Longer
@@ -130,10 +165,15 @@ module _ {K V S : Type 0} (eq : K → K → Bool) (hash : S → K → ℕ) (plac
         | inr e ↦ subst (λ l. Lasts eq Place (state_of front) (state_of l)) (sym e)
             (to_longer front (record { some = is.some; begins = subst (λ l. IsPrefix front l) e is.begins }))
       ];
-      still = λ front next is begins equal array. elim (prefix_more next log note begins) [
-        | inl old ↦ kept.still front next is old equal array
-        | inr e ↦ ap (λ l. words_in (state_of l) array) e
-            ∙ still_longer front (record { some = is.some; begins = subst (λ l. IsPrefix front l) e is.begins })
-            (ap (λ l. length (entries_of l)) (sym e) ∙ equal) array
+      still = λ front next is begins equal array index. elim (prefix_more next log note begins) [
+        | inl old ↦ kept.still front next is old equal array index
+        | inr e ↦ subst (λ l. Stays front l array index) (sym e)
+            (still_longer front (record { some = is.some; begins = subst (λ l. IsPrefix front l) e is.begins })
+            (ap (λ l. length (entries_of l)) (sym e) ∙ equal) array index)
+      ];
+      seals = λ front is. elim (prefix_more front log note is.begins) [
+        | inl old ↦ kept.seals front (record { some = is.some; begins = old })
+        | inr e ↦ subst (λ l. (array index : ℕ) → is_sealed (word_at (words_in (state_of l) array) index) ≡ true →
+            NamesSeal array index (word_at (words_in (state_of l) array) index) l) (sym e) named
       ];
     }

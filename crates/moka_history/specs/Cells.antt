@@ -1,9 +1,9 @@
 -- The cells of a book, as a state has them: words stand in them by number.
-use Rattle.std.specs.Prelude.{ℕ, ◌+◌, ◌-◌, ◌*◌, ◌^◌, true, List, map}
+use Rattle.std.specs.Prelude.{ℕ, ◌+◌, ◌-◌, ◌*◌, ◌^◌, true, cond, List, map}
 use Rattle.logbook.specs.Pages.{Cell}
 use Rattle.moka_words.specs.declared.words.Word.{Word}
 use Rattle.moka_words.specs.declared.words.Word.TheVariants.{Unset, Empty, Live, Tomb, SealedEmpty, SealedLive, SealedTomb}
-use Rattle.moka_history.specs.States.{Owner, Door, Bucket, Ticket, State}
+use Rattle.moka_history.specs.States.{Owner, Door, Bucket, Ticket, Array, Row, State}
 
 -- the number by which a cell holds a word; a new cell holds 0
 abbrev pub number_of : Word → ℕ
@@ -20,6 +20,8 @@ abbrev pub cell_of : (drawn : ℕ) → Owner → Cell
 cell_of drawn Door = (drawn, true)
 cell_of drawn (Bucket w) = (number_of w, true)
 cell_of drawn (Ticket n home) = (0, home)
+cell_of drawn (Array n home) = (0, home)
+cell_of drawn (Row n home) = (cond home 1 0, home)
 
 module _ {K V : Type 0} where
   abbrev pub drawn : State K V → ℕ

@@ -1,5 +1,5 @@
 -- What holds of the rule: laws of whole steps, of fronts, and of what a caller finds after one.
-use Rattle.std.specs.Prelude.{◌≡◌, ◌≢◌, ℕ, suc, ◌+◌, ◌*◌, ◌^◌, ◌<◌, ◌≤◌, Bool, true, false, cond, List, [], ◌∷◌, ◌++◌, length, replicate, Option, Some, IsSome, slice_set}
+use Rattle.std.specs.Prelude.{◌≡◌, ◌≢◌, ℕ, suc, ◌+◌, ◌*◌, ◌^◌, ◌<◌, ◌≤◌, ◌⊎◌, Bool, true, false, cond, List, [], ◌∷◌, ◌++◌, length, replicate, Option, Some, IsSome, slice_set}
 use Rattle.std.specs.Cmp.{IsEquivalence}
 use Rattle.std.specs.Int.{IsPowerOfTwo}
 use Rattle.std.specs.List.{slice_get}
@@ -7,22 +7,23 @@ use Rattle.std.specs.Option.{option_map}
 use mathlib.Core.List.{IsPrefix}
 use Rattle.logbook.specs.Pages.{Cell, cell}
 use Rattle.moka_words.specs.declared.words.Word.{Word}
-use Rattle.moka_words.specs.Words.{node_of, word_at}
+use Rattle.moka_words.specs.Words.{is_sealed, node_of, word_at}
 use Rattle.moka_words.specs.Arrays.{bucket_at}
 use Rattle.moka_words.specs.Effect.{Memory}
 use Rattle.moka_growth.specs.Calls.{Call, Change}
-use Rattle.moka_growth.specs.Fits.{Rests}
+use Rattle.moka_growth.specs.Fits.{HasBeenRoot, Rests}
+use Rattle.moka_growth.specs.Growing.{seal_of}
 use Rattle.moka_growth.specs.Maps.{Finds}
 use Rattle.moka_pairs.specs.Keys.{Respects, own_by}
 use Rattle.moka_pairs.specs.Pairs.{pair_at}
 use Rattle.moka_pairs.specs.Segments.{FitsAll, IsHashed}
 use Rattle.moka_history.specs.declared.note.Note.{Note}
-use Rattle.moka_history.specs.declared.note.Note.TheVariants.{Opened, Announced, Changed}
+use Rattle.moka_history.specs.declared.note.Note.TheVariants.{Opened, Announced, Changed, ArrayAnnounced, CellAdded, CellHome, Sealed}
 use Rattle.moka_history.specs.Entries.{Entry, map_after}
-use Rattle.moka_history.specs.States.{Ticket, State, key_at, memory_of, words_in}
+use Rattle.moka_history.specs.States.{Ticket, Array, Row, Plan, State, key_at, memory_of, words_in}
 use Rattle.moka_history.specs.Logs.{entries_of, entry_with, state_of}
 use Rattle.moka_history.specs.Cells.{number_of, drawn}
-use Rattle.moka_history.specs.Rules.{WasPut, made_on, keys_of, Lasts, IsFront, IsOpenedFor, IsKept, Holds}
+use Rattle.moka_history.specs.Rules.{WasPut, made_on, keys_of, Lasts, IsFront, IsOpenedFor, NamesSeal, IsKept, Holds}
 
 -- equal keys have one hash and one segment, whichever the hash builder is
 pub record IsDivided {K S : Type 0} (eq : K → K → Bool) (hash : S → K → ℕ)
@@ -140,6 +141,65 @@ ChangingKeeps K V S =
     × (eq key k ≡ true)
     × (entries_of more ≡ entries_of log ++ entry_with (state_of log).pairs ticket from to k ∷ []))
 
+-- A step that draws the next ticket for an array keeps the rule: the new cell is of that ticket, which
+-- has this plan. No entry comes.
+abbrev pub ArrayAnnouncingKeeps : (K V S : Type 0) → Type 0
+ArrayAnnouncingKeeps K V S =
+    (eq : K → K → Bool) (hash : S → K → ℕ) (place : S → ℕ → K → ℕ) → IsDivided eq hash place →
+    (cells : List Cell) (log : List (Note K V S)) → Holds eq hash place cells log →
+    (ticket segment size : ℕ) (grown : Option ℕ) → ticket ≡ suc (state_of log).last →
+    ticket ≤ 2 ^ 60 →
+    let more : List (Note K V S) = log ++ ArrayAnnounced ticket segment size grown ∷ [] in
+    let plan : Plan = record { segment = segment; size = size; grown = grown } in
+    Holds eq hash place
+    (slice_set cells 0 (suc (drawn (state_of log)), true) ++ (0, false) ∷ []) more
+    × (slice_get (state_of more).cells (length cells) ≡ Some (Array ticket false))
+    × ((state_of more).plans ticket ≡ Some plan) × (entries_of more ≡ entries_of log)
+
+-- A step that adds a cell for an array that is announced keeps the rule, and no entry comes.
+abbrev pub CellAddingKeeps : (K V S : Type 0) → Type 0
+CellAddingKeeps K V S =
+    (eq : K → K → Bool) (hash : S → K → ℕ) (place : S → ℕ → K → ℕ) → IsDivided eq hash place →
+    (cells : List Cell) (log : List (Note K V S)) → Holds eq hash place cells log →
+    (ticket : ℕ) → IsSome ((state_of log).plans ticket) →
+    let more : List (Note K V S) = log ++ CellAdded ticket ∷ [] in
+    Holds eq hash place (cells ++ (0, false) ∷ []) more
+    × (slice_get (state_of more).cells (length cells) ≡ Some (Row ticket false))
+    × (entries_of more ≡ entries_of log)
+
+-- A step that brings such a cell home keeps the rule: the cell holds an unset word, which is in no
+-- array. No entry comes.
+abbrev pub CellBringingKeeps : (K V S : Type 0) → Type 0
+CellBringingKeeps K V S =
+    (eq : K → K → Bool) (hash : S → K → ℕ) (place : S → ℕ → K → ℕ) → IsDivided eq hash place →
+    (cells : List Cell) (log : List (Note K V S)) → Holds eq hash place cells log →
+    (ticket key : ℕ) → slice_get (state_of log).cells key ≡ Some (Row ticket false) →
+    let more : List (Note K V S) = log ++ CellHome ticket key ∷ [] in
+    Holds eq hash place (slice_set cells key (1, true)) more
+    × (slice_get (state_of more).cells key ≡ Some (Row ticket true))
+    × (entries_of more ≡ entries_of log)
+
+-- a word that isn't sealed, of an array that is the root of the segment or was it
+pub record IsBare {K V : Type 0} (s : State K V) (segment array index : ℕ) (word : Word) : Type 0
+  where
+    pub within : segment < s.segments
+    pub rooted : HasBeenRoot (memory_of s segment) array
+    pub inside : index < length (words_in s array)
+    pub there : word_at (words_in s array) index ≡ word
+    pub bare : is_sealed word ≡ false
+
+-- A step that exchanges a word for its seal keeps the rule, in whatever order words are sealed. No
+-- entry comes, so the map stays.
+abbrev pub SealingKeeps : (K V S : Type 0) → Type 0
+SealingKeeps K V S =
+    (eq : K → K → Bool) (hash : S → K → ℕ) (place : S → ℕ → K → ℕ) → IsDivided eq hash place →
+    (cells : List Cell) (log : List (Note K V S)) → Holds eq hash place cells log →
+    (segment array index : ℕ) (word : Word) → IsBare (state_of log) segment array index word →
+    let more : List (Note K V S) = log ++ Sealed array index (seal_of word) ∷ [] in
+    Holds eq hash place
+    (slice_set cells (key_at (state_of log) array index) (number_of (seal_of word), true)) more
+    × (entries_of more ≡ entries_of log)
+
 -- What a call knew with the keys of a front it knows with those of the log. Where it fits the memory of
 -- a front, with these, it fits that of the log.
 abbrev pub CallsStillFit : (K V S : Type 0) → Type 0
@@ -186,8 +246,8 @@ TicketsAreSpentOnce K V S =
     × ((front : List (Note K V S)) → IsFront front log → made_on ticket (entries_of front) ≡ 1 →
     made_on ticket (entries_of log) ≡ 1)
 
--- A word that isn't as it was after a front was changed by an entry past the front, on another ticket
--- than one whose cell isn't home.
+-- A word that isn't as it was after a front is sealed, or was changed by an entry past the front, on
+-- another ticket than one whose cell isn't home.
 abbrev pub WordsChangeByEntries : (K V S : Type 0) → Type 0
 WordsChangeByEntries K V S =
     (eq : K → K → Bool) (hash : S → K → ℕ) (place : S → ℕ → K → ℕ) →
@@ -195,9 +255,18 @@ WordsChangeByEntries K V S =
     (array index : ℕ) →
     word_at (words_in (state_of log) array) index
     ≢ word_at (words_in (state_of front) array) index →
-    (e : Entry K V) × (slice_get (entries_of log) (length (entries_of front)) ≡ Some e)
+    (is_sealed (word_at (words_in (state_of log) array) index) ≡ true)
+    ⊎ ((e : Entry K V) × (slice_get (entries_of log) (length (entries_of front)) ≡ Some e)
     × ((own ticket : ℕ) → slice_get (state_of log).cells own ≡ Some (Ticket ticket false) →
-    e.ticket ≢ ticket)
+    e.ticket ≢ ticket))
+
+-- a kept log names each sealed word of an array as the seal that was put there
+abbrev pub SealsAreNamed : (K V S : Type 0) → Type 0
+SealsAreNamed K V S =
+    (eq : K → K → Bool) (hash : S → K → ℕ) (place : S → ℕ → K → ℕ) →
+    (log : List (Note K V S)) → IsKept eq hash place log → (array index : ℕ) →
+    is_sealed (word_at (words_in (state_of log) array) index) ≡ true →
+    NamesSeal array index (word_at (words_in (state_of log) array) index) log
 
 -- puts of so many different keys of one segment
 pub record ArePut {K V : Type 0} (eq : K → K → Bool) (place : K → ℕ) (es : List (Entry K V))

@@ -1,5 +1,6 @@
 -- What holds of histories.
-use Rattle.std.specs.Prelude.{◌≡◌, ℕ, ◌<◌, Bool, List, [], ◌∷◌, ◌++◌, length, Option, Some}
+use Rattle.std.specs.Prelude.{◌≡◌, ℕ, ◌<◌, Bool, false, List, [], ◌∷◌, ◌++◌, length, Option, Some}
+use Rattle.std.specs.List.{slice_get}
 use Rattle.std.specs.Cmp.{IsEquivalence}
 use Rattle.std.specs.Int.{IsPowerOfTwo}
 use Rattle.std.specs.Option.{option_to_list}
@@ -13,9 +14,9 @@ use Rattle.moka_pairs.specs.Keys.{Respects, own_by}
 use Rattle.moka_pairs.specs.Pairs.{AreKeysOf, map_of}
 use Rattle.moka_pairs.specs.Segments.{SoundAll}
 use Rattle.moka_history.specs.declared.note.Note.{Note}
-use Rattle.moka_history.specs.declared.note.Note.TheVariants.{Opened, Announced, Changed}
+use Rattle.moka_history.specs.declared.note.Note.TheVariants.{Opened, Announced, Changed, ArrayAnnounced, CellAdded, CellHome, Sealed}
 use Rattle.moka_history.specs.Entries.{Entry, IsLegal, map_after, pair_put}
-use Rattle.moka_history.specs.States.{State, IsPlaced, after, memory_of, unopened, words_in}
+use Rattle.moka_history.specs.States.{Row, State, IsPlaced, after, memory_of, unopened, words_in}
 use Rattle.moka_history.specs.Logs.{entries_of, entry_of, entry_with, state_of}
 
 abbrev pub MapGoesOn : (K V : Type 0) → Type 0
@@ -75,5 +76,27 @@ abbrev pub ChangedSetsWord : (K V S : Type 0) → Type 0
 ChangedSetsWord K V S =
     (s : State K V) (ticket array index : ℕ) (to : Word) (note : Note K V S) → IsPlaced s →
     note ≡ Changed ticket array index to → index < length (s.arrays array) → (segment : ℕ) →
+    SetsWord array index to (memory_of s segment) (memory_of (after s note) segment)
+    × IsPlaced (after s note)
+
+-- the note announces an array, adds a cell to a row, or brings a cell of one home
+abbrev pub IsOfRow : {K V S : Type 0} → State K V → Note K V S → Type 0
+IsOfRow s (ArrayAnnounced ticket segment length grown) = Unit {0}
+IsOfRow s (CellAdded ticket) = Unit {0}
+IsOfRow s (CellHome ticket cell) = slice_get s.cells cell ≡ Some (Row ticket false)
+IsOfRow s (Opened segments length hasher) = ⊥
+IsOfRow s (Announced ticket pair) = ⊥
+IsOfRow s (Changed ticket array index to) = ⊥
+IsOfRow s (Sealed array index to) = ⊥
+
+abbrev pub RowsKeepWords : (K V S : Type 0) → Type 0
+RowsKeepWords K V S =
+    (s : State K V) (note : Note K V S) → IsPlaced s → IsOfRow s note →
+    ((a : ℕ) → words_in (after s note) a ≡ words_in s a) × IsPlaced (after s note)
+
+abbrev pub SealedSetsWord : (K V S : Type 0) → Type 0
+SealedSetsWord K V S =
+    (s : State K V) (array index : ℕ) (to : Word) (note : Note K V S) → IsPlaced s →
+    note ≡ Sealed array index to → index < length (s.arrays array) → (segment : ℕ) →
     SetsWord array index to (memory_of s segment) (memory_of (after s note) segment)
     × IsPlaced (after s note)

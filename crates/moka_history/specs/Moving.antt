@@ -1,16 +1,19 @@
 -- What each step of a book tells its caller, and that each can be made whatever the book is.
-use Rattle.std.specs.Prelude.{◌≡◌, ◌⊎◌, ℕ, ◌+◌, ◌^◌, ◌==◌, ◌<◌, ◌≤◌, Bool, true, false, List, [], ◌∷◌, ◌++◌, length, Option, Some, None, MatchBool}
+use Rattle.std.specs.Prelude.{◌≡◌, ◌⊎◌, ℕ, ◌+◌, ◌^◌, ◌==◌, ◌<◌, ◌≤◌, Bool, true, false, List, [], ◌∷◌, ◌++◌, length, Option, Some, None, IsSome, MatchBool}
 use Rattle.std.specs.List.{slice_get}
 use mathlib.Core.List.{IsPrefix}
 use prog.Atomic.{either}
 use Rattle.logbook.specs.Pages.{Moves, Step, View, cell, may_make, may_write, nib, no_nib, step}
 use Rattle.moka_words.specs.declared.words.Word.{Word}
 use Rattle.moka_words.specs.Arrays.{bucket_at}
+use Rattle.moka_words.specs.Words.{is_sealed}
 use Rattle.moka_growth.specs.Calls.{Call}
+use Rattle.moka_growth.specs.Fits.{HasBeenRoot}
+use Rattle.moka_growth.specs.Growing.{seal_of}
 use Rattle.moka_history.specs.declared.note.Note.{Note}
-use Rattle.moka_history.specs.declared.note.Note.TheVariants.{Announced, Changed}
+use Rattle.moka_history.specs.declared.note.Note.TheVariants.{Opened, Announced, Changed, ArrayAnnounced, CellAdded, CellHome, Sealed}
 use Rattle.moka_history.specs.Entries.{Entry}
-use Rattle.moka_history.specs.States.{Ticket, State}
+use Rattle.moka_history.specs.States.{Ticket, Array, Row, Plan, State, memory_of}
 use Rattle.moka_history.specs.Logs.{entries_of, entry_of, state_of}
 use Rattle.moka_history.specs.Cells.{cells_of, number_of}
 use Rattle.moka_history.specs.Rules.{IsOpenedFor, IsKept, Holds}
@@ -28,6 +31,29 @@ module _ {K V S : Type 0} where
   abbrev pub HasTicket : (own : ℕ) → Note K V S → State K V → Type 0
   HasTicket own (Announced ticket pair) s = slice_get s.cells own ≡ Some (Ticket ticket false)
   HasTicket own note s = Unit {0}
+
+  -- the cell is that of the array's ticket that the note draws, which has the note's plan; or it is the
+  -- one that the note adds to a row
+  abbrev pub HasCell : (own : ℕ) → Note K V S → State K V → Type 0
+  HasCell own (ArrayAnnounced ticket segment size grown) s =
+      (slice_get s.cells own ≡ Some (Array ticket false))
+      × (s.plans ticket ≡ Some (record { segment = segment; size = size; grown = grown }))
+  HasCell own (CellAdded ticket) s = slice_get s.cells own ≡ Some (Row ticket false)
+  HasCell own (Opened segments size hasher) s = ⊥
+  HasCell own (Announced ticket pair) s = ⊥
+  HasCell own (Changed ticket array index to) s = ⊥
+  HasCell own (CellHome ticket cell) s = ⊥
+  HasCell own (Sealed array index to) s = ⊥
+
+  -- the cell that the note brings home is so, in a row for its ticket
+  abbrev pub IsBrought : Note K V S → State K V → Type 0
+  IsBrought (CellHome ticket cell) s = slice_get s.cells cell ≡ Some (Row ticket true)
+  IsBrought (Opened segments size hasher) s = ⊥
+  IsBrought (Announced ticket pair) s = ⊥
+  IsBrought (Changed ticket array index to) s = ⊥
+  IsBrought (ArrayAnnounced ticket segment size grown) s = ⊥
+  IsBrought (CellAdded ticket) s = ⊥
+  IsBrought (Sealed array index to) s = ⊥
 
   -- the cell holds the number after this log
   abbrev pub HoldsThere : (key number : ℕ) → List (Note K V S) → Type 0
@@ -64,10 +90,41 @@ module _ {K V S : Type 0} (eq : K → K → Bool) (hash : S → K → ℕ) (plac
       × (entries_of w.0 ≡ entries_of added.log ++ e ∷ []))
       (Looks s v found w)
 
+  -- A cell was added, and the pen makes it. No entry came.
+  pub record Adds (s : Step (Note K V S)) (v : View (Note K V S) ℕ) (found : ℕ)
+      (w : View (Note K V S) ℕ) : Type 0 where
+    pub added : Added s v found w
+    pub makes : w.1.0.right ≡ may_make
+    pub cell : HasCell w.1.0.key s.ask (state_of w.0)
+    pub entries : entries_of w.0 ≡ entries_of added.log
+
+  -- the ticket was drawn for the array, and the pen makes its cell; or another one was drawn meanwhile
+  abbrev pub AnnouncesArray : Step (Note K V S) → View (Note K V S) ℕ → ℕ →
+      View (Note K V S) ℕ → Type 0
+  AnnouncesArray s v found w = MatchBool (found == s.old) (Adds s v found w) (Looks s v found w)
+
+  -- the cell that the pen wrote is home, and no entry came
+  pub record BringsHome (s : Step (Note K V S)) (v : View (Note K V S) ℕ) (found : ℕ)
+      (w : View (Note K V S) ℕ) : Type 0 where
+    pub added : Added s v found w
+    pub home : IsBrought s.ask (state_of w.0)
+    pub entries : entries_of w.0 ≡ entries_of added.log
+
+  -- the word was sealed, and no entry came; or it is another one by now
+  abbrev pub Seals : Step (Note K V S) → View (Note K V S) ℕ → ℕ → View (Note K V S) ℕ → Type 0
+  Seals s v found w = MatchBool (found == s.old)
+      ((added : Added s v found w) × (entries_of w.0 ≡ entries_of added.log))
+      (Looks s v found w)
+
 -- the door, or a place that an array has after this log
 abbrev pub IsPlace : {K V S : Type 0} → (key : ℕ) → List (Note K V S) → Type 0
 IsPlace key log = (key ≡ 0)
     ⊎ ((array : ℕ) × (index : ℕ) × (slice_get ((state_of log).arrays array) index ≡ Some key))
+
+-- or a word of a row that is home
+abbrev pub IsHome : {K V S : Type 0} → (key : ℕ) → List (Note K V S) → Type 0
+IsHome key log = IsPlace key log
+    ⊎ ((ticket : ℕ) × (slice_get (state_of log).cells key ≡ Some (Row ticket true)))
 
 -- a load of a word, by who has seen a front
 abbrev pub LookMoves : (K V S : Type 0) → Type 0
@@ -107,3 +164,51 @@ ChangingMoves K V S =
     (Changes eq hash place
     (step bucket (number_of from) (number_of to) (Changed ticket array index to))
     (front, (nib may_write own 0, None)))
+
+-- An exchange of the door for one more, by who has read it: it draws the next ticket for an array.
+abbrev pub ArrayAnnouncingMoves : (K V S : Type 0) → Type 0
+ArrayAnnouncingMoves K V S =
+    (eq : K → K → Bool) (hash : S → K → ℕ) (place : S → ℕ → K → ℕ) → IsDivided eq hash place →
+    (front : List (Note K V S)) (drawn ticket segment size : ℕ) (grown : Option ℕ) →
+    0 < length front → ticket ≡ (state_of front).segments + (drawn + 1) → ticket ≤ 2 ^ 60 →
+    Moves (Holds eq hash place) shown moved 0 (front, (no_nib, None))
+    (λ n. either (n == drawn) (drawn + 1) n)
+    (AnnouncesArray eq hash place
+    (step 0 drawn (drawn + 1) (ArrayAnnounced ticket segment size grown))
+    (front, (no_nib, None)))
+
+-- An exchange that leaves the number of a word which is home, whatever it is, adds a cell for an array
+-- that is announced.
+abbrev pub CellAddingMoves : (K V S : Type 0) → Type 0
+CellAddingMoves K V S =
+    (eq : K → K → Bool) (hash : S → K → ℕ) (place : S → ℕ → K → ℕ) → IsDivided eq hash place →
+    (front : List (Note K V S)) (key left ticket : ℕ) → 0 < length front → IsHome key front →
+    IsSome ((state_of front).plans ticket) →
+    Moves (Holds eq hash place) shown moved key (front, (no_nib, None))
+    (λ n. either (n == left) left n)
+    (Adds eq hash place (step key left left (CellAdded ticket)) (front, (no_nib, None)))
+
+-- Another one brings it home: the pen has written an unset word.
+abbrev pub CellBringingMoves : (K V S : Type 0) → Type 0
+CellBringingMoves K V S =
+    (eq : K → K → Bool) (hash : S → K → ℕ) (place : S → ℕ → K → ℕ) → IsDivided eq hash place →
+    (front : List (Note K V S)) (key left own ticket : ℕ) (home : Bool) → 0 < length front →
+    IsHome key front → slice_get (state_of front).cells own ≡ Some (Row ticket home) →
+    Moves (Holds eq hash place) shown moved key (front, (nib may_write own 1, None))
+    (λ n. either (n == left) left n)
+    (BringsHome eq hash place (step key left left (CellHome ticket own))
+    (front, (nib may_write own 1, None)))
+
+-- An exchange of a bucket for the seal of its word, by who has read the word.
+abbrev pub SealingMoves : (K V S : Type 0) → Type 0
+SealingMoves K V S =
+    (eq : K → K → Bool) (hash : S → K → ℕ) (place : S → ℕ → K → ℕ) → IsDivided eq hash place →
+    (front : List (Note K V S)) → 0 < length front → (segment array index bucket : ℕ) →
+    segment < (state_of front).segments → HasBeenRoot (memory_of (state_of front) segment) array →
+    slice_get ((state_of front).arrays array) index ≡ Some bucket → (word : Word) →
+    IsSmall word → is_sealed word ≡ false →
+    Moves (Holds eq hash place) shown moved bucket (front, (no_nib, None))
+    (λ n. either (n == number_of word) (number_of (seal_of word)) n)
+    (Seals eq hash place
+    (step bucket (number_of word) (number_of (seal_of word)) (Sealed array index (seal_of word)))
+    (front, (no_nib, None)))

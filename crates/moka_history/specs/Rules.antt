@@ -1,18 +1,18 @@
 -- The rule of a table's book: what its cells and its log keep.
-use Rattle.std.specs.Prelude.{◌≡◌, ◌↔◌, ℕ, suc, ◌^◌, ◌==◌, ◌<◌, ◌≤◌, Bool, true, cond, List, ◌∷◌, map, length, Option, Some, None, IsSome}
+use Rattle.std.specs.Prelude.{◌≡◌, ◌↔◌, ◌⊎◌, ℕ, suc, ◌^◌, ◌==◌, ◌<◌, ◌≤◌, Bool, true, cond, List, ◌∷◌, map, length, Option, Some, None, IsSome}
 use Rattle.std.specs.List.{slice_get}
 use mathlib.Core.List.{IsPrefix}
 use Rattle.logbook.specs.Pages.{Cell}
 use Rattle.moka_hist.specs.Finite.{times}
 use Rattle.moka_words.specs.declared.words.Word.{Word}
-use Rattle.moka_words.specs.Words.{node_of, word_at}
+use Rattle.moka_words.specs.Words.{is_sealed, node_of, word_at}
 use Rattle.moka_pairs.specs.Keys.{Agrees}
 use Rattle.moka_pairs.specs.Pairs.{segment_keys, map_of}
 use Rattle.moka_pairs.specs.Segments.{SoundAll, LaterAll}
 use Rattle.moka_history.specs.declared.note.Note.{Note}
-use Rattle.moka_history.specs.declared.note.Note.TheVariants.{Opened}
+use Rattle.moka_history.specs.declared.note.Note.TheVariants.{Opened, Sealed}
 use Rattle.moka_history.specs.Entries.{Entry, IsLegal, map_after}
-use Rattle.moka_history.specs.States.{Door, Bucket, Ticket, State, IsPlaced, memory_of, words_in}
+use Rattle.moka_history.specs.States.{Door, Bucket, Ticket, Array, Row, State, IsPlaced, memory_of, words_in}
 use Rattle.moka_history.specs.Logs.{entries_of, state_of}
 use Rattle.moka_history.specs.Cells.{cells_of}
 
@@ -22,7 +22,7 @@ module _ {K V : Type 0} where
   made_on ticket es = times ticket (map (λ e. e.ticket) es)
 
   -- one cell an owner: the door is the first one, each place of an array has a bucket of its own,
-  -- and each ticket at most one cell
+  -- and each ticket at most one cell. So no array has the cell of a row that is being made.
   pub record IsOwned (s : State K V) : Type 0 where
     pub door : (k : ℕ) → slice_get s.cells k ≡ Some Door ↔ (k ≡ 0)
     pub buckets : (a i k : ℕ) → slice_get (s.arrays a) i ≡ Some k →
@@ -30,9 +30,12 @@ module _ {K V : Type 0} where
     pub places : IsPlaced s
     pub tickets : (j k n : ℕ) (b c : Bool) → slice_get s.cells j ≡ Some (Ticket n b) →
         slice_get s.cells k ≡ Some (Ticket n c) → j ≡ k
+    pub arrays : (j k n : ℕ) (b c : Bool) → slice_get s.cells j ≡ Some (Array n b) →
+        slice_get s.cells k ≡ Some (Array n c) → j ≡ k
 
   -- Tickets rise to the last one, which is at most 2^60: no later one has a cell, a pair or an
-  -- entry. At most one entry was made on a ticket: on one whose cell is home, and not before.
+  -- entry, and none has a plan. At most one entry was made on a ticket: on one whose cell is home, and
+  -- not before. An array's ticket has a plan, and each row is for a ticket that has one.
   pub record IsDrawn (s : State K V) (es : List (Entry K V)) : Type 0 where
     pub first : s.segments ≤ s.last
     pub last : s.last ≤ 2 ^ 60
@@ -41,6 +44,11 @@ module _ {K V : Type 0} where
     pub pairs : (n : ℕ) → s.last < n → s.pairs n ≡ None
     pub entries : (n : ℕ) → s.last < n → made_on n es ≡ 0
     pub once : (n : ℕ) → made_on n es ≤ 1
+    pub announced : (k n : ℕ) (home : Bool) → slice_get s.cells k ≡ Some (Array n home) →
+        IsSome (s.plans n)
+    pub rows : (k n : ℕ) (home : Bool) → slice_get s.cells k ≡ Some (Row n home) →
+        IsSome (s.plans n)
+    pub planned : (n : ℕ) → s.last < n → s.plans n ≡ None
 
 module _ {K V : Type 0} (eq : K → K → Bool) where
   -- an entry put a value under the key
@@ -59,8 +67,8 @@ module _ {K V : Type 0} (eq : K → K → Bool) (place : K → ℕ) where
   abbrev pub pair_in : State K V → (segment : ℕ) → K → Option (K × V)
   pair_in s segment q = map_of eq (memory_of s segment) (keys_of place s segment) s.pairs q
 
-  -- What stays true of a state: arrays keep their cells, tickets theirs, numbers their pairs, and
-  -- the memory of each segment is a later one.
+  -- What stays true of a state: arrays keep their cells, tickets and rows theirs, which stay home,
+  -- numbers their pairs, tickets their plans, and the memory of each segment is a later one.
   pub record Lasts (old new : State K V) : Type 0 where
     pub segments : new.segments ≡ old.segments
     pub last : old.last ≤ new.last
@@ -68,7 +76,12 @@ module _ {K V : Type 0} (eq : K → K → Bool) (place : K → ℕ) where
         slice_get (new.arrays a) i ≡ Some k
     pub tickets : (k n : ℕ) (b : Bool) → slice_get old.cells k ≡ Some (Ticket n b) →
         (c : Bool) × (slice_get new.cells k ≡ Some (Ticket n c)) × (b ≡ true → c ≡ true)
+    pub announced : (k n : ℕ) (b : Bool) → slice_get old.cells k ≡ Some (Array n b) →
+        (c : Bool) × (slice_get new.cells k ≡ Some (Array n c)) × (b ≡ true → c ≡ true)
+    pub rows : (k n : ℕ) (b : Bool) → slice_get old.cells k ≡ Some (Row n b) →
+        (c : Bool) × (slice_get new.cells k ≡ Some (Row n c)) × (b ≡ true → c ≡ true)
     pub pairs : Agrees new.pairs old.pairs
+    pub plans : Agrees new.plans old.plans
     pub later : (i : ℕ) → i < old.segments →
         LaterAll eq (keys_of place new i) (memory_of old i) (memory_of new i)
 
@@ -97,9 +110,18 @@ module _ {K V S : Type 0} where
     pub some : 0 < length front
     pub begins : IsPrefix front log
 
+  -- the log names the word as the seal that was put there
+  abbrev pub NamesSeal : (array index : ℕ) → Word → List (Note K V S) → Type 0
+  NamesSeal array index word log = (n : ℕ) × (slice_get log n ≡ Some (Sealed array index word))
+
+-- a word is as it was, or is sealed by now
+abbrev pub IsSameOrSealed : (old new : Word) → Type 0
+IsSameOrSealed old new = (new ≡ old) ⊎ (is_sealed new ≡ true)
+
 -- `hash` and `place` are those of a hash builder; `place` is that of so many segments
 module _ {K V S : Type 0} (eq : K → K → Bool) (hash : S → K → ℕ) (place : S → ℕ → K → ℕ) where
-  -- after each front of it all was good, and has lasted; words change by entries alone
+  -- After each front of it all was good, and has lasted. Words change by entries and seals alone, and
+  -- the log names each seal.
   pub record IsKept (log : List (Note K V S)) : Type 0 where
     pub segments : ℕ
     pub size : ℕ
@@ -110,8 +132,12 @@ module _ {K V S : Type 0} (eq : K → K → Bool) (hash : S → K → ℕ) (plac
     pub lasts : (front next : List (Note K V S)) → IsFront front next → IsPrefix next log →
         Lasts eq (place hasher segments) (state_of front) (state_of next)
     pub still : (front next : List (Note K V S)) → IsFront front next → IsPrefix next log →
-        length (entries_of next) ≡ length (entries_of front) → (array : ℕ) →
-        words_in (state_of next) array ≡ words_in (state_of front) array
+        length (entries_of next) ≡ length (entries_of front) → (array index : ℕ) →
+        IsSameOrSealed (word_at (words_in (state_of front) array) index)
+        (word_at (words_in (state_of next) array) index)
+    pub seals : (front : List (Note K V S)) → IsFront front log → (array index : ℕ) →
+        is_sealed (word_at (words_in (state_of front) array) index) ≡ true →
+        NamesSeal array index (word_at (words_in (state_of front) array) index) front
 
   -- the rule
   abbrev pub Holds : (cells : List Cell) → (log : List (Note K V S)) → Type 0

@@ -6,21 +6,33 @@ use Rattle.moka_words.specs.declared.words.Word.{Word}
 use Rattle.moka_words.specs.declared.words.Word.TheVariants.{Unset, Empty}
 use Rattle.moka_words.specs.Effect.{Memory}
 use Rattle.moka_history.specs.declared.note.Note.{Note}
-use Rattle.moka_history.specs.declared.note.Note.TheVariants.{Opened, Announced, Changed}
+use Rattle.moka_history.specs.declared.note.Note.TheVariants.{Opened, Announced, Changed, ArrayAnnounced, CellAdded, CellHome, Sealed}
 
--- What a cell is: the one by which tickets are drawn, that of a bucket, with its word, or that of a
--- ticket, which comes home with the change that is made on the ticket.
+-- What a cell is: the one by which tickets are drawn; that of a bucket, with its word; that of a
+-- ticket, which comes home with the change that is made on the ticket; that of a ticket on which an
+-- array is announced; or one of a row that was added for the array of this ticket. Home, such a cell
+-- holds an unset word, which is part of no array yet.
 pub data Owner : Type 0 where
   Door : Owner
   Bucket : (word : Word) → Owner
   Ticket : (number : ℕ) (home : Bool) → Owner
+  Array : (number : ℕ) (home : Bool) → Owner
+  Row : (number : ℕ) (home : Bool) → Owner
 
--- the number of segments, the last ticket, the pair of each number, the cells, by their keys, and for
--- each array the keys of its cells
+-- what an array is announced for: its segment, how many words it is to have, and the array that it
+-- grows, if it isn't the first one
+pub record Plan : Type 0 where
+  pub segment : ℕ
+  pub size : ℕ
+  pub grown : Option ℕ
+
+-- the number of segments, the last ticket, the pair of each number, the plan of each ticket on which
+-- an array is announced, the cells, by their keys, and for each array the keys of its cells
 pub record State (K V : Type 0) : Type 0 where
   pub segments : ℕ
   pub last : ℕ
   pub pairs : ℕ → Option (K × V)
+  pub plans : ℕ → Option Plan
   pub cells : List Owner
   pub arrays : ℕ → List ℕ
 
@@ -29,6 +41,8 @@ abbrev pub word_of : Owner → Word
 word_of Door = Unset
 word_of (Bucket w) = w
 word_of (Ticket n home) = Unset
+word_of (Array n home) = Unset
+word_of (Row n home) = Unset
 
 abbrev pub word_in : List Owner → (key : ℕ) → Word
 word_in cells key = word_of (slice_index_or cells key Door)
@@ -38,6 +52,8 @@ abbrev pub spent : (ticket : ℕ) → Owner → Owner
 spent ticket Door = Door
 spent ticket (Bucket w) = Bucket w
 spent ticket (Ticket n home) = Ticket n (cond (n == ticket) true home)
+spent ticket (Array n home) = Array n home
+spent ticket (Row n home) = Row n home
 
 -- the keys of an array's cells, as a table is opened: those of the first array come after the door,
 -- and those of each other one after the array before
@@ -50,7 +66,14 @@ module _ {K V : Type 0} where
   -- before a table was opened
   abbrev pub unopened : State K V
   unopened =
-      record { segments = 0; last = 0; pairs = λ n. None; cells = []; arrays = λ a. [] }
+      record {
+        segments = 0;
+        last = 0;
+        pairs = λ n. None;
+        plans = λ n. None;
+        cells = [];
+        arrays = λ a. [];
+      }
 
   -- the words of an array, and the key of one's cell
   abbrev pub words_in : State K V → (array : ℕ) → List Word
@@ -86,6 +109,7 @@ module _ {K V S : Type 0} where
         segments = segments;
         last = segments;
         pairs = λ n. None;
+        plans = λ n. None;
         cells = Door ∷ replicate (segments * length) (Bucket Empty);
         arrays = first_keys segments length;
       }
@@ -99,3 +123,14 @@ module _ {K V S : Type 0} where
       record s {
         cells = map (spent ticket) (slice_set s.cells (key_at s array index) (Bucket to));
       }
+  after s (ArrayAnnounced ticket segment length grown) =
+      record s {
+        last = ticket;
+        plans = put_at s.plans ticket
+            (Some (record { segment = segment; size = length; grown = grown }));
+        cells = s.cells ++ Array ticket false ∷ [];
+      }
+  after s (CellAdded ticket) = record s { cells = s.cells ++ Row ticket false ∷ [] }
+  after s (CellHome ticket cell) = record s { cells = slice_set s.cells cell (Row ticket true) }
+  after s (Sealed array index to) =
+      record s { cells = slice_set s.cells (key_at s array index) (Bucket to) }

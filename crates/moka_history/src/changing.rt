@@ -1,6 +1,6 @@
 //! Laws of what notes make of the words.
 
-ghost use Rattle.moka_history.specs.Laws.{AnnouncedKeepsWords, ChangedSetsWord, OpenedIsSound};
+ghost use Rattle.moka_history.specs.Laws.{AnnouncedKeepsWords, ChangedSetsWord, OpenedIsSound, RowsKeepWords, SealedSetsWord};
 
 /// A table that was just opened has sound segments, of empty words alone, if its arrays are as long
 /// as a power of two.
@@ -16,4 +16,14 @@ pub fn announced_keeps_words<K, V, S>()
 /// A change sets its word, and no other, in the memory of each segment.
 pub fn changed_sets_word<K, V, S>()
     ensures sets { ChangedSetsWord K V S }
+{}
+
+/// An array that is announced, and a row that is made, change no word.
+pub fn rows_keep_words<K, V, S>()
+    ensures keeps { RowsKeepWords K V S }
+{}
+
+/// A seal sets its word, and no other, in the memory of each segment.
+pub fn sealed_sets_word<K, V, S>()
+    ensures sets { SealedSetsWord K V S }
 {}

@@ -1,6 +1,6 @@
 //! Laws of the rule that the cells of a book keep with its log.
 
-ghost use Rattle.moka_history.specs.Keeping.{AnnouncingKeeps, ArraysHaveRows, CellsHoldWords, ChangingKeeps, LookKeeps, NumbersTellWords, OpeningIsKept};
+ghost use Rattle.moka_history.specs.Keeping.{AnnouncingKeeps, ArrayAnnouncingKeeps, ArraysHaveRows, CellAddingKeeps, CellBringingKeeps, CellsHoldWords, ChangingKeeps, LookKeeps, NumbersTellWords, OpeningIsKept, SealingKeeps};
 
 /// The book of a table that was just opened keeps the rule.
 pub fn opening_is_kept<K, V, S>()
@@ -37,4 +37,24 @@ pub fn announcing_keeps<K, V, S>()
 /// one entry.
 pub fn changing_keeps<K, V, S>()
     ensures keeps { ChangingKeeps K V S }
+{}
+
+/// A step that draws the next ticket for an array keeps the rule.
+pub fn array_announcing_keeps<K, V, S>()
+    ensures keeps { ArrayAnnouncingKeeps K V S }
+{}
+
+/// A step that adds a cell to the row of an array that is announced keeps the rule.
+pub fn cell_adding_keeps<K, V, S>()
+    ensures keeps { CellAddingKeeps K V S }
+{}
+
+/// A step that brings such a cell home, with an unset word, keeps the rule.
+pub fn cell_bringing_keeps<K, V, S>()
+    ensures keeps { CellBringingKeeps K V S }
+{}
+
+/// The exchange of a word for its seal keeps the rule, and adds no entry.
+pub fn sealing_keeps<K, V, S>()
+    ensures keeps { SealingKeeps K V S }
 {}

@@ -1,6 +1,6 @@
 //! Laws of fronts: what was found after one stays true.
 
-ghost use Rattle.moka_history.specs.Keeping.{CallsStillFit, FoundIsHistory, FrontIsKept, FrontLasts, FullArrayWasPut, TicketsAreSpentOnce, WordsChangeByEntries, WordsNamePairs};
+ghost use Rattle.moka_history.specs.Keeping.{CallsStillFit, FoundIsHistory, FrontIsKept, FrontLasts, FullArrayWasPut, SealsAreNamed, TicketsAreSpentOnce, WordsChangeByEntries, WordsNamePairs};
 
 /// Each front of a kept log is kept.
 pub fn front_is_kept<K, V, S>()
@@ -33,7 +33,7 @@ pub fn tickets_are_spent_once<K, V, S>()
     ensures once { TicketsAreSpentOnce K V S }
 {}
 
-/// A word that isn't as it was after a front was changed by an entry past the front.
+/// A word that isn't as it was after a front is sealed, or was changed by an entry past the front.
 pub fn words_change_by_entries<K, V, S>()
     ensures change { WordsChangeByEntries K V S }
 {}
@@ -42,4 +42,9 @@ pub fn words_change_by_entries<K, V, S>()
 /// segment.
 pub fn full_array_was_put<K, V, S>()
     ensures puts { FullArrayWasPut K V S }
+{}
+
+/// The log names each seal of a word.
+pub fn seals_are_named<K, V, S>()
+    ensures named { SealsAreNamed K V S }
 {}

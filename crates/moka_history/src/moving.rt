@@ -1,6 +1,6 @@
 //! Laws of steps over the words of a book: each can be made, whatever the book is by then.
 
-ghost use Rattle.moka_history.specs.Moving.{AnnouncingMoves, ChangingMoves, LookMoves};
+ghost use Rattle.moka_history.specs.Moving.{AnnouncingMoves, ArrayAnnouncingMoves, CellAddingMoves, CellBringingMoves, ChangingMoves, LookMoves, SealingMoves};
 
 /// A load of a word leaves the book. Its caller has seen the log so far, in which the word is the one
 /// that it read.
@@ -18,4 +18,27 @@ pub fn announcing_moves<K, V, S>()
 /// leaves the book, where the word is another one by now.
 pub fn changing_moves<K, V, S>()
     ensures moves { ChangingMoves K V S }
+{}
+
+/// An exchange of the door for one more draws the next ticket for an array; or it leaves the book,
+/// where another ticket was drawn meanwhile.
+pub fn array_announcing_moves<K, V, S>()
+    ensures moves { ArrayAnnouncingMoves K V S }
+{}
+
+/// An exchange that leaves the number of a word adds a cell to the row of an array, whatever the number
+/// is by then.
+pub fn cell_adding_moves<K, V, S>()
+    ensures moves { CellAddingMoves K V S }
+{}
+
+/// Another one brings that cell home.
+pub fn cell_bringing_moves<K, V, S>()
+    ensures moves { CellBringingMoves K V S }
+{}
+
+/// An exchange of a bucket for the seal of its word makes it; or it leaves the book, where the word is
+/// another one by now.
+pub fn sealing_moves<K, V, S>()
+    ensures moves { SealingMoves K V S }
 {}

@@ -24,4 +24,27 @@ pub enum Note<K, V, S> {
         index: usize,
         to: Word,
     },
+    /// The ticket was drawn for an array of so many words of this segment, which is to come after the
+    /// array that it grows; None for the segment's first one.
+    ArrayAnnounced {
+        ticket: u64,
+        segment: usize,
+        length: usize,
+        grown: Option<u64>,
+    },
+    /// A cell was added for a word of the array that is announced on this ticket.
+    CellAdded {
+        ticket: u64,
+    },
+    /// That cell is home, and holds an unset word. The word is part of no array yet.
+    CellHome {
+        ticket: u64,
+        cell: u64,
+    },
+    /// The word of the array was exchanged for its seal.
+    Sealed {
+        array: u64,
+        index: usize,
+        to: Word,
+    },
 }
