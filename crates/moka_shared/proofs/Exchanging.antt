@@ -1,12 +1,12 @@
 -- An exchange may be made, and what it adds.
-use Rattle.std.proofs.Common.{◌≡◌, ◌≢◌, ℕ, ◌+◌, ◌*◌, ◌<◌, ◌≤◌, Bool, false, cond, List, [], ◌∷◌, ◌++◌, length, map, Some, suc, refl, sym, ap, subst, ◌∙◌, arith}
-use Rattle.std.proofs.lemmas.Bool.{eq-eqb}
+use Rattle.std.proofs.Common.{◌≡◌, ◌≢◌, ℕ, ◌+◌, ◌*◌, ◌<◌, ◌≤◌, Bool, false, cond, List, [], ◌∷◌, ◌++◌, length, map, Some, suc, inl, inr, refl, sym, ap, subst, ◌∙◌, arith}
+use Rattle.std.proofs.lemmas.Bool.{eq-eqb, false≢true}
 use Rattle.std.specs.List.{slice_get}
 use Rattle.std.specs.Option.{option_map}
 use mathlib.Core.List.{IsPrefix}
 use Rattle.moka_hist.specs.Finite.{times}
 use Rattle.moka_words.specs.declared.words.Word.{Word}
-use Rattle.moka_words.specs.Words.{node_of, word_at}
+use Rattle.moka_words.specs.Words.{is_sealed, node_of, word_at}
 use Rattle.moka_words.specs.Arrays.{bucket_at}
 use Rattle.moka_growth.specs.declared.kinds.CallKind.TheVariants as kind
 use Rattle.moka_growth.specs.Calls.{Call, Change}
@@ -208,7 +208,10 @@ module _ {K V S : Type 0} (eq : K → K → Bool) (hash : S → K → ℕ) (plac
           ∙ (ap number_of (there_is_word ∙ same) ∙ sym from_is)
           )
 
-      pub met_entry : (y : Entry K V) × (slice_get (entries_of new) (length (entries_of front)) ≡ Some y) × (y.ticket ≢ ticket)
-      met_entry =
-          let (y, at_front, others) = entry_between eq hash place new (kept_as eq hash place t new new_log) front front_new (suc (own_at place t key)) index differs in
-          (y, at_front, others own ticket away)
+      -- where that isn't sealed, it was changed by an entry
+      pub met_entry : (word : Word) → word_at (words_in (state_of new) (suc (own_at place t key))) index ≡ word → is_sealed word ≡ false → (y : Entry K V) × (slice_get (entries_of new) (length (entries_of front)) ≡ Some y) × (y.ticket ≢ ticket)
+      met_entry word there_is_word bare =
+          elim (entry_between eq hash place new (kept_as eq hash place t new new_log) front front_new (suc (own_at place t key)) index differs) [
+            | inl sealed ↦ absurd (false≢true (sym bare ∙ (ap is_sealed (sym there_is_word) ∙ sealed)))
+            | inr came ↦ (let (y, at_front, others) = came in (y, at_front, others own ticket away))
+          ]

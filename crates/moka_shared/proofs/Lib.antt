@@ -4,7 +4,7 @@ pub mod Moved
 pub mod Numbered
 pub mod Loading
 pub mod Placed
-pub mod Row
+pub mod Buckets
 pub mod Beginning
 pub mod Probed
 pub mod Answered
@@ -20,3 +20,5 @@ pub mod Since
 pub mod Filled
 pub mod Courses
 pub mod Turned
+pub mod Rowing
+pub mod Sealing

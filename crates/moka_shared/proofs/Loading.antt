@@ -63,6 +63,7 @@ module _ {K V S : Type 0} (eq : K → K → Bool) (hash : S → K → ℕ) (plac
       good = good_as;
       lasts = lasts_as;
       still = x.kept.still;
+      seals = x.kept.seals;
     }
 
     module _ (segment index : ℕ) (below : segment < t.segments) (inside : index < t.size) where

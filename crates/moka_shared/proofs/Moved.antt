@@ -2,7 +2,7 @@
 use Rattle.std.proofs.Common.{◌≡◌, ◌==◌, ℕ, Bool, List, None, Option, Some, refl, subst}
 use Rattle.std.specs.List.{slice_get}
 use prog.Atomic.{either}
-use Rattle.logbook.specs.Pages.{Moves, Nib, may_write, nib, step}
+use Rattle.logbook.specs.Pages.{Moves, Nib, may_write, nib, no_nib, step}
 use Rattle.moka_words.specs.Arrays.{bucket_at}
 use Rattle.moka_history.specs.declared.note.Note.{Note}
 use Rattle.moka_history.specs.declared.note.Note.TheVariants.{Changed}
@@ -11,10 +11,13 @@ use Rattle.moka_history.specs.States.{Ticket}
 use Rattle.moka_history.specs.Logs.{state_of}
 use Rattle.moka_history.specs.Rules.{Holds}
 use Rattle.moka_history.specs.Keeping.{IsDivided}
-use Rattle.moka_history.specs.Moving.{moved, shown}
+use Rattle.moka_history.specs.Moving.{Seals, moved, shown}
+use Rattle.moka_history.proofs.Moves.{sealing_moves}
 use Rattle.moka_history.proofs.Plays.{changing_moves}
 use Rattle.moka_shared.specs.declared.asked.Exchange.{Exchange}
-use Rattle.moka_shared.specs.Asks.{exchange_note}
+use Rattle.moka_shared.specs.declared.asked.Seal.{Seal}
+use Rattle.moka_shared.specs.Asks.{exchange_note, seal_note}
+use Rattle.moka_shared.specs.Rows.{MaySeal}
 use Rattle.moka_shared.specs.Steps.{ChangesOrStays, MayExchange}
 use Rattle.moka_shared.proofs.Loading.{opened_some}
 use Rattle.moka_shared.proofs.Staying.{moves_more}
@@ -33,3 +36,11 @@ module _ {K V S : Type 0} (eq : K → K → Bool) (hash : S → K → ℕ) (plac
       (λ n. either (n == number_of may.word) (number_of asked.to) n)
       (changing_moves eq hash place divided may.segments may.size may.hasher log may.opened may.key may.call asked.array may.length_is may.passed may.word
       asked.to may.comes may.small bucket pen.key asked.ticket home there at))
+
+  pub seal_moves : (bucket from to : ℕ) (asked : Seal) (log : List (Note K V S)) → MaySeal bucket from to asked log →
+      (pen : Nib) → pen ≡ no_nib → (ask : Note K V S) → ask ≡ seal_note asked → (state : Option ℕ) → state ≡ None →
+      Moves (Holds eq hash place) shown moved bucket (log, (pen, state)) (λ n. either (n == from) to n)
+      (Seals eq hash place (step bucket from to ask) (log, (pen, state)))
+  seal_moves bucket from to asked log may pen pen_is ask ask_is state none =
+      rw (pen_is, ask_is, none, may.from_is, may.to_is, may.asked_is)
+      (sealing_moves eq hash place divided log may.some may.segment asked.array asked.index bucket may.within may.rooted may.there may.word may.small may.bare)

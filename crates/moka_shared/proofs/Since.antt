@@ -86,7 +86,7 @@ module _ {K V S H D : Type 0} (eq : K → K → Bool) (place : S → ℕ → K �
         }
 
     pub reason_since : (m : Missed) → IsReason eq place looked t h mid new m → IsReason eq place looked t h old new m
-    reason_since (missed.Sealed w a i) r = (r.0, r.1, r.2 ∙ hidden)
+    reason_since (missed.Sealed w a i) r = (r.0, r.1 ∙ hidden)
     reason_since (missed.NodeHidden n) r = subst (λ x. IsNodeHidden t h new.front.log x (looked new.hidden) n) hidden r
     reason_since (missed.ArrayHidden a) r = absurd r
     reason_since (missed.Lost w) r =
@@ -134,11 +134,11 @@ module _ {K V S H D : Type 0} (eq : K → K → Bool) (place : S → ℕ → K �
     in_vain : new.mine ≡ mid.mine → made_on ticket (entries_of new.front.log) ≡ 0 → MakesNone old new
     in_vain same none = record { mine = same ∙ mine; none = inr (record { ticket = ticket; late = late; drawn = drawn; none = none }) }
 
-    met_since : (m : Missed) → IsMetBy t h passed ticket old.front.log new.front.log m → IsReason eq place looked t h old new m
-    met_since (missed.Sealed w a i) r = absurd r
-    met_since (missed.NodeHidden n) r = absurd r
-    met_since (missed.ArrayHidden a) r = absurd r
-    met_since (missed.Lost w) r = record {
+    met_since : looked new.hidden ≡ looked old.hidden → (m : Missed) → IsMetBy t h passed ticket old.front.log new.front.log m → IsReason eq place looked t h old new m
+    met_since hides (missed.Sealed w a i) r = (r, hides)
+    met_since hides (missed.NodeHidden n) r = absurd r
+    met_since hides (missed.ArrayHidden a) r = absurd r
+    met_since hides (missed.Lost w) r = record {
       ticket = ticket;
       late = late;
       drawn = drawn;
@@ -147,21 +147,21 @@ module _ {K V S H D : Type 0} (eq : K → K → Bool) (place : S → ℕ → K �
       past = omega arith;
       met = r;
     }
-    met_since (missed.Ticket n) r = absurd r
-    met_since (missed.NoFree n) r = absurd r
-    met_since missed.Spent r = absurd r
+    met_since hides (missed.Ticket n) r = absurd r
+    met_since hides (missed.NoFree n) r = absurd r
+    met_since hides missed.Spent r = absurd r
 
-    pub puts_drawn : (r : Put V) → PutsOn t h passed ticket (e ticket) old.front.log mid new r → Puts eq place looked t h old new (Makes old new e) (λ v. ⊥) r
-    puts_drawn put.Done p = record {
+    pub puts_drawn : looked new.hidden ≡ looked old.hidden → (r : Put V) → PutsOn t h passed ticket (e ticket) old.front.log mid new r → Puts eq place looked t h old new (Makes old new e) (λ v. ⊥) r
+    puts_drawn hides put.Done p = record {
       ticket = ticket;
       late = late;
       adds = adds_since (e ticket) old.front.log mid.front.log new.front.log begins p.0;
       drawn = drawn;
       mine = p.1 ∙ ap (λ m. ticket ∷ m.numbers) mine;
     }
-    puts_drawn (put.There found) p = absurd p
-    puts_drawn (put.Missed m) p = (in_vain p.0 p.1, met_since m p.2)
-    puts_drawn put.Memory p = in_vain p.0 p.1
+    puts_drawn hides (put.There found) p = absurd p
+    puts_drawn hides (put.Missed m) p = (in_vain p.0 p.1, met_since hides m p.2)
+    puts_drawn hides put.Memory p = in_vain p.0 p.1
 
 module _ {K V S H D : Type 0} (eq : K → K → Bool) (place : S → ℕ → K → ℕ) (looked : H → Hiding) (t : Table S) (h : ℕ) (old new : Seat K V S H D) where
   -- the same, said otherwise

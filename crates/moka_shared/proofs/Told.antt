@@ -7,7 +7,7 @@ use Rattle.moka_history.specs.declared.note.Note.{Note}
 use Rattle.moka_history.specs.Moving.{Added, Changes}
 use Rattle.moka_shared.specs.Steps.{Spends, Writes}
 
-was_made : (A B : Type 0) (b : Bool) → b ≡ true → MatchBool b A B → A
+pub was_made : (A B : Type 0) (b : Bool) → b ≡ true → MatchBool b A B → A
 was_made A B = elim [ true ↦ (λ e h. h) | false ↦ (λ e h. absurd (true≢false (sym e))) ]
 
 module _ {K V S : Type 0} (eq : K → K → Bool) (hash : S → K → ℕ) (place : S → ℕ → K → ℕ) (key from to found : ℕ) (ask : Note K V S)

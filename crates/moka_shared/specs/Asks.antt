@@ -1,10 +1,13 @@
 -- The notes that steps ask for.
-use Rattle.std.specs.Prelude.{Option}
+use Rattle.std.specs.Prelude.{ℕ, Option}
 use Rattle.std.specs.Option.{option_map}
 use Rattle.moka_history.specs.declared.note.Note.{Note}
-use Rattle.moka_history.specs.declared.note.Note.TheVariants.{Announced, Changed}
+use Rattle.moka_history.specs.declared.note.Note.TheVariants.{Announced, Changed, ArrayAnnounced, CellAdded, CellHome, Sealed}
 use Rattle.moka_shared.specs.declared.asked.Drawn.{Drawn}
+use Rattle.moka_shared.specs.declared.asked.Brought.{Brought}
 use Rattle.moka_shared.specs.declared.asked.Exchange.{Exchange}
+use Rattle.moka_shared.specs.declared.asked.Planned.{Planned}
+use Rattle.moka_shared.specs.declared.asked.Seal.{Seal}
 use denote.Ref.{Bor}
 
 -- the pair that lies behind these references
@@ -16,3 +19,15 @@ drawn_note d = Announced d.ticket (pair_of d.pair)
 
 abbrev pub exchange_note : {K V S : Type 0} → Exchange → Note K V S
 exchange_note e = Changed e.ticket e.array e.index e.to
+
+abbrev pub planned_note : {K V S : Type 0} → Planned → Note K V S
+planned_note p = ArrayAnnounced p.ticket p.segment p.length p.grown
+
+abbrev pub added_note : {K V S : Type 0} → (ticket : ℕ) → Note K V S
+added_note ticket = CellAdded ticket
+
+abbrev pub brought_note : {K V S : Type 0} → Brought → Note K V S
+brought_note b = CellHome b.ticket b.pen.now.nib.key
+
+abbrev pub seal_note : {K V S : Type 0} → Seal → Note K V S
+seal_note s = Sealed s.array s.index s.to

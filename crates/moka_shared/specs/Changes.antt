@@ -25,8 +25,7 @@ use Rattle.moka_shared.specs.declared.standing.Standing.{Standing}
 use Rattle.moka_shared.specs.declared.standing.Standing.TheVariants as standing
 use Rattle.moka_shelf.specs.Looks.{Hiding}
 use Rattle.moka_shared.specs.Hashing.{segment_of}
-use Rattle.moka_shared.specs.Looks.{IsNodeHidden}
-use Rattle.moka_shared.specs.Meeting.{IsShut}
+use Rattle.moka_shared.specs.Looks.{IsNodeHidden, IsSealedIn}
 use Rattle.moka_shared.specs.Probing.{EndsAt, IsLogOf, own_keys}
 use Rattle.moka_shared.specs.Steps.{Pens}
 use Rattle.moka_shared.specs.Tables.{Table}
@@ -106,7 +105,8 @@ abbrev pub IsMetBy : {K V S : Type 0} → (t : Table S) → (hash passed ticket 
     (front new : List (Note K V S)) → Missed → Type 0
 IsMetBy t hash passed ticket front new (missed.Lost word) =
     IsMet t hash passed ticket front word new
-IsMetBy t hash passed ticket front new (missed.Sealed word array index) = ⊥
+IsMetBy t hash passed ticket front new (missed.Sealed word array index) =
+    IsSealedIn word array index new
 IsMetBy t hash passed ticket front new (missed.NodeHidden number) = ⊥
 IsMetBy t hash passed ticket front new (missed.ArrayHidden array) = ⊥
 IsMetBy t hash passed ticket front new (missed.Ticket n) = ⊥
@@ -168,8 +168,7 @@ module _ {K V S H D : Type 0} (eq : K → K → Bool) (place : S → ℕ → K �
   -- why a change has to be made again
   abbrev pub IsReason : Missed → Type 0
   IsReason (missed.Sealed word array index) =
-      (word_at (words_in (state_of new.front.log) array) index ≡ word) × IsShut word
-      × (looked new.hidden ≡ looked old.hidden)
+      IsSealedIn word array index new.front.log × (looked new.hidden ≡ looked old.hidden)
   IsReason (missed.NodeHidden number) =
       IsNodeHidden t hash new.front.log (looked old.hidden) (looked new.hidden) number
   IsReason (missed.ArrayHidden array) = ⊥

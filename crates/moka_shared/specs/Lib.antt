@@ -10,3 +10,4 @@ pub mod Accesses
 pub mod Changes
 pub mod Inserts
 pub mod Removals
+pub mod Rows

@@ -1,18 +1,20 @@
 -- What a look for a key answers, and why it has to be made again.
-use Rattle.std.specs.Prelude.{◌≡◌, ℕ, Bool, List, Option, Some, IfSome}
+use Rattle.std.specs.Prelude.{◌≡◌, ℕ, Bool, true, List, Option, Some, IfSome}
 use denote.Ref.{Bor}
 use Rattle.std.specs.Fn.{Mut, ComputesKey}
 use Rattle.std.specs.Option.{option_map}
-use Rattle.moka_words.specs.Words.{word_at}
+use Rattle.moka_words.specs.declared.words.Word.{Word}
+use Rattle.moka_words.specs.Words.{is_sealed, word_at}
 use Rattle.moka_shelf.specs.Looks.{Hiding}
 use Rattle.moka_history.specs.declared.note.Note.{Note}
 use Rattle.moka_history.specs.States.{words_in}
 use Rattle.moka_history.specs.Logs.{state_of}
+use Rattle.moka_history.specs.Rules.{NamesSeal}
 use Rattle.moka_shared.specs.declared.answers.Missed.{Missed}
 use Rattle.moka_shared.specs.declared.answers.Missed.TheVariants as missed
 use Rattle.moka_shared.specs.declared.answers.TryGet.{TryGet}
 use Rattle.moka_shared.specs.declared.answers.TryGet.TheVariants as get
-use Rattle.moka_shared.specs.Meeting.{Hides, IsShut}
+use Rattle.moka_shared.specs.Meeting.{Hides}
 use Rattle.moka_shared.specs.Probing.{ReadsNode}
 use Rattle.moka_shared.specs.Tables.{Table}
 
@@ -37,6 +39,13 @@ abbrev pub IsSo : {V : Type 0} → (V → Type 0) → TryGet V → Type 0
 IsSo holds (get.Found value) = IfSome value holds
 IsSo holds (get.Again missed) = Unit {0}
 
+-- the word stands there after this log, which names it as a seal
+pub record IsSealedIn {K V S : Type 0} (word : Word) (array index : ℕ) (log : List (Note K V S))
+    : Type 0 where
+  pub there : word_at (words_in (state_of log) array) index ≡ word
+  pub sealed : is_sealed word ≡ true
+  pub named : NamesSeal array index word log
+
 module _ {K V S : Type 0} (t : Table S) (hash : ℕ) (log : List (Note K V S)) (old new : Hiding)
   where
     -- The node was hidden from the look in this pass, as the last of all. A word that was read names
@@ -50,7 +59,7 @@ module _ {K V S : Type 0} (t : Table S) (hash : ℕ) (log : List (Note K V S)) (
     -- why a look has to be made again
     abbrev pub IsCause : Missed → Type 0
     IsCause (missed.Sealed word array index) =
-        (word_at (words_in (state_of log) array) index ≡ word) × IsShut word × (new ≡ old)
+        IsSealedIn word array index log × (new ≡ old)
     IsCause (missed.NodeHidden number) = IsNodeHidden number
     IsCause (missed.ArrayHidden array) = ⊥
     IsCause (missed.Lost word) = ⊥

@@ -62,6 +62,24 @@ pub enum TryChange<V> {
     Memory,
 }
 
+/// Why no row was opened.
+#[derive(Clone, Copy, PartialEq, Eq, Debug)]
+pub enum Unopened {
+    /// The pass has to be made again.
+    Again(Missed),
+    /// Memory is wanting.
+    Memory,
+}
+
+/// What a pass answers that is to seal a word.
+#[derive(Clone, Copy, PartialEq, Eq, Debug)]
+pub enum TrySeal {
+    /// This word stands there for good, by this caller or another one.
+    Sealed(Word),
+    /// The pass has to be made again.
+    Again(Missed),
+}
+
 /// What became of what was to be put.
 #[derive(Drop)]
 pub(crate) enum Put<V> {

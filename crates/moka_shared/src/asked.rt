@@ -1,5 +1,6 @@
 //! What steps ask for.
 
+use logbook::Pen;
 use moka_words::Word;
 
 /// The draw of a ticket: its number, and the pair that the history names under it; none of a
@@ -14,6 +15,31 @@ pub(crate) struct Drawn<'a, K, V> {
 #[derive(Clone, Copy)]
 pub(crate) struct Exchange {
     pub(crate) ticket: u64,
+    pub(crate) array: u64,
+    pub(crate) index: usize,
+    pub(crate) to: Word,
+}
+
+/// The announcement of an array: the ticket, the segment that it is for, how many words it is to have,
+/// and the array that it grows.
+#[derive(Clone, Copy)]
+pub(crate) struct Planned {
+    pub(crate) ticket: u64,
+    pub(crate) segment: usize,
+    pub(crate) length: usize,
+    pub(crate) grown: Option<u64>,
+}
+
+/// A cell that comes home for the array of this ticket: the one that the pen writes.
+#[derive(Drop)]
+pub(crate) struct Brought<'a> {
+    pub(crate) ticket: u64,
+    pub(crate) pen: &'a Pen,
+}
+
+/// The exchange of a word for its seal.
+#[derive(Clone, Copy)]
+pub(crate) struct Seal {
     pub(crate) array: u64,
     pub(crate) index: usize,
     pub(crate) to: Word,

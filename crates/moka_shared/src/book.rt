@@ -1,6 +1,6 @@
 //! The book of a table's history.
 
-use crate::asked::{Drawn, Exchange};
+use crate::asked::{Brought, Drawn, Exchange, Planned, Seal};
 use logbook::{Gain, Plain, Play, Rule};
 use moka_history::Note;
 use std::hash::{BuildHasher, Hash};
@@ -95,4 +95,84 @@ impl<K, V, S> Plain<Exchange, Note<K, V, S>, u64> for Change {
     ghost ask = { λ exchange. exchange_note exchange };
 
     ghost state = { λ exchange. None };
+}
+
+/// A step that draws a ticket for an array.
+pub struct Announce;
+
+impl<K: Eq + Hash, V, S: BuildHasher> Play<Note<K, V, S>, u64> for Announce {
+    ghost use Rattle.moka_history.specs.Moving.{AnnouncesArray};
+    ghost use Rattle.moka_shared.specs.Hashing.{hash_in, place_in};
+
+    ghost then = { AnnouncesArray K.eq (hash_in S.BuildHasher S.Hasher.Hasher K.hash_input)
+        (place_in S.BuildHasher S.Hasher.Hasher K.hash_input) };
+}
+
+impl<K, V, S> Plain<Planned, Note<K, V, S>, u64> for Announce {
+    ghost use Rattle.std.specs.Prelude.{None};
+    ghost use Rattle.moka_shared.specs.Asks.{planned_note};
+
+    ghost ask = { λ planned. planned_note planned };
+
+    ghost state = { λ planned. None };
+}
+
+/// A step that adds a cell to a row.
+pub struct AddCell;
+
+impl<K: Eq + Hash, V, S: BuildHasher> Play<Note<K, V, S>, u64> for AddCell {
+    ghost use Rattle.moka_history.specs.Moving.{Adds};
+    ghost use Rattle.moka_shared.specs.Hashing.{hash_in, place_in};
+
+    ghost then = { Adds K.eq (hash_in S.BuildHasher S.Hasher.Hasher K.hash_input)
+        (place_in S.BuildHasher S.Hasher.Hasher K.hash_input) };
+}
+
+impl<K, V, S> Plain<u64, Note<K, V, S>, u64> for AddCell {
+    ghost use Rattle.std.specs.Prelude.{None};
+    ghost use Rattle.moka_shared.specs.Asks.{added_note};
+
+    ghost ask = { λ ticket. added_note ticket };
+
+    ghost state = { λ ticket. None };
+}
+
+/// A step that brings a cell of a row home.
+pub struct BringHome;
+
+impl<K: Eq + Hash, V, S: BuildHasher> Play<Note<K, V, S>, u64> for BringHome {
+    ghost use Rattle.moka_history.specs.Moving.{BringsHome};
+    ghost use Rattle.moka_shared.specs.Hashing.{hash_in, place_in};
+
+    ghost then = { BringsHome K.eq (hash_in S.BuildHasher S.Hasher.Hasher K.hash_input)
+        (place_in S.BuildHasher S.Hasher.Hasher K.hash_input) };
+}
+
+impl<'a, K, V, S> Plain<Brought<'a>, Note<K, V, S>, u64> for BringHome {
+    ghost use Rattle.std.specs.Prelude.{None};
+    ghost use Rattle.moka_shared.specs.Asks.{brought_note};
+
+    ghost ask = { λ brought. brought_note brought };
+
+    ghost state = { λ brought. None };
+}
+
+/// A step that exchanges a bucket for its seal.
+pub struct SealWord;
+
+impl<K: Eq + Hash, V, S: BuildHasher> Play<Note<K, V, S>, u64> for SealWord {
+    ghost use Rattle.moka_history.specs.Moving.{Seals};
+    ghost use Rattle.moka_shared.specs.Hashing.{hash_in, place_in};
+
+    ghost then = { Seals K.eq (hash_in S.BuildHasher S.Hasher.Hasher K.hash_input)
+        (place_in S.BuildHasher S.Hasher.Hasher K.hash_input) };
+}
+
+impl<K, V, S> Plain<Seal, Note<K, V, S>, u64> for SealWord {
+    ghost use Rattle.std.specs.Prelude.{None};
+    ghost use Rattle.moka_shared.specs.Asks.{seal_note};
+
+    ghost ask = { λ seal. seal_note seal };
+
+    ghost state = { λ seal. None };
 }

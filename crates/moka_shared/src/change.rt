@@ -180,7 +180,12 @@ impl<
             ),
             Ended::Full => TryChange::Absent,
             Ended::Hidden(number) => TryChange::Again(Missed::NodeHidden(number)),
-            Ended::Sealed { passed, word } => TryChange::Again(self.sealed(hash, passed, word)),
+            Ended::Sealed { passed, word } => TryChange::Again(self.sealed(
+                &seat.front,
+                hash,
+                passed,
+                word,
+            )),
         }
     }
 

@@ -148,7 +148,12 @@ impl<
             ),
             Ended::Full => Put::Missed(Missed::NoFree { length: self.size }),
             Ended::Hidden(number) => Put::Missed(Missed::NodeHidden(number)),
-            Ended::Sealed { passed, word } => Put::Missed(self.sealed(hash, passed, word)),
+            Ended::Sealed { passed, word } => Put::Missed(self.sealed(
+                &seat.front,
+                hash,
+                passed,
+                word,
+            )),
         }
     }
 

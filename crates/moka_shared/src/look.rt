@@ -12,8 +12,8 @@ ghost use Rattle.moka_growth.specs.declared.kinds.CallKind.TheVariants.{Get};
 ghost use Rattle.moka_shared.specs.Accesses.{EndsSo, FoundSo, HasCome};
 ghost use Rattle.moka_shared.specs.Hashing.{hash_in, place_in, segment_of};
 ghost use Rattle.moka_shared.specs.Changes.{AreMade};
-ghost use Rattle.moka_shared.specs.Looks.{Asks, Finds, HasCause, IsFound, IsSo};
-ghost use Rattle.moka_shared.specs.Meeting.{HasNode, IsShown};
+ghost use Rattle.moka_shared.specs.Looks.{Asks, Finds, HasCause, IsFound, IsSealedIn, IsSo};
+ghost use Rattle.moka_shared.specs.Meeting.{HasNode, IsShown, IsShut};
 ghost use Rattle.moka_shared.specs.Tables.{names_of};
 ghost use Rattle.moka_shared.specs.Probing.{Ends, IsLogOf, ReadsAt, StopsAt};
 ghost use Rattle.moka_shared.specs.declared.answers.Missed.TheVariants.{Sealed};
@@ -129,7 +129,9 @@ impl<K: Eq + Hash, V, S: BuildHasher, P: Fact<K, V>, L: Shelf<Node<K, V, S, P>>>
             Ended::At { passed, word, node } => self.copied(front, hash, passed, word, node),
             Ended::Full => Ok(TryGet::Found(None)),
             Ended::Hidden(number) => Ok(TryGet::Again(Missed::NodeHidden(number))),
-            Ended::Sealed { passed, word } => Ok(TryGet::Again(self.sealed(hash, passed, word))),
+            Ended::Sealed { passed, word } => Ok(TryGet::Again(self.sealed(
+                front, hash, passed, word,
+            ))),
         }
     }
 
@@ -192,12 +194,25 @@ impl<K: Eq + Hash, V, S: BuildHasher, P: Fact<K, V>, L: Shelf<Node<K, V, S, P>>>
         }
     }
 
-    // A sealed word that was read under the hash, past so many others.
-    pub(crate) fn sealed(&self, hash: u64, passed: usize, word: Word) -> Missed
-        requires { passed < self.now.size }
-        ensures { result ≡ Sealed word (segment_of self.now.segments hash + 1)
+    // A word that is sealed, and was read under the hash, past so many others. One that nobody has set
+    // stands in no array so far.
+    pub(crate) fn sealed(
+        &self,
+        front: &Seen<Note<K, V, S>, u64, Law>,
+        hash: u64,
+        passed: usize,
+        word: Word,
+    ) -> Missed
+        requires log { IsLogOf K.eq (hash_in S.BuildHasher S.Hasher.Hasher K.hash_input)
+            (place_in S.BuildHasher S.Hasher.Hasher K.hash_input) self.now front.now.log }
+        requires reads { ReadsAt self.now hash passed word front.now.log }
+        requires shut { IsShut word }
+        ensures is { result ≡ Sealed word (segment_of self.now.segments hash + 1)
             (bucket_at self.now.size hash passed) }
+        ensures stands { IsSealedIn word (segment_of self.now.segments hash + 1)
+            (bucket_at self.now.size hash passed) front.now.log }
     {
+        let _front = front;
         Missed::Sealed {
             word,
             array: segment_of(self.segments, hash) as u64 + 1,

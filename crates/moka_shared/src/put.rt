@@ -1,17 +1,19 @@
 //! Changes on a ticket, where a probe has ended.
-ghost use Rattle.std.specs.Prelude.{◌≡◌, ◌<◌, ◌≤◌, ◌+◌, ◌^◌, ◌∷◌, Some, None, IfOk, IfErr, OnOk, List};
+ghost use Rattle.std.specs.Prelude.{◌≡◌, ℕ, ◌<◌, ◌≤◌, ◌+◌, ◌^◌, ◌∷◌, Some, None, IfOk, IfErr, OnOk, List, false};
 ghost use mathlib.Core.List.{IsPrefix};
+ghost use Rattle.moka_words.specs.declared.words.Word.{Word};
 ghost use Rattle.moka_words.specs.declared.words.Word.TheVariants.{Live};
+ghost use Rattle.moka_words.specs.Words.{is_sealed};
 ghost use Rattle.moka_history.specs.Entries.{Entry};
 ghost use Rattle.moka_history.specs.Logs.{entries_of, state_of};
 ghost use Rattle.moka_history.specs.Rules.{made_on};
 ghost use Rattle.moka_history.specs.declared.note.Note.{Note};
 ghost use Rattle.moka_words.specs.Arrays.{bucket_at};
-ghost use Rattle.moka_shared.specs.Accesses.{Exchanged, IsChosen, IsOther, PutsBy};
+ghost use Rattle.moka_shared.specs.Accesses.{Exchanged, IsChosen, IsOther, MissesBy, PutsBy};
 ghost use Rattle.moka_shared.specs.Hashing.{hash_in, place_in, segment_of};
 ghost use Rattle.moka_shared.specs.Asks.{pair_of};
-ghost use Rattle.moka_shared.specs.Changes.{Adds, CanChange, IsDrawnFor, IsMet, IsUndrawn, PutsOn};
-ghost use Rattle.moka_shared.specs.Probing.{GoesOn, IsLogOf};
+ghost use Rattle.moka_shared.specs.Changes.{Adds, CanChange, IsDrawnFor, IsMet, IsMetBy, IsUndrawn, PutsOn};
+ghost use Rattle.moka_shared.specs.Probing.{GoesOn, IsLogOf, ReadsAt};
 ghost use Rattle.moka_shared.specs.Steps.{Pens};
 
 use crate::Fact;
@@ -24,7 +26,7 @@ use crate::seat::Seat;
 use crate::segments::{bucket_at, position, segment_of};
 use crate::table::HashMap;
 use crate::tickets::with_ticket;
-use crate::words::{number_of, word_of};
+use crate::words::{is_sealed, number_of, word_of};
 use boxcar::tag::Tag;
 use logbook::{Pen, Seen};
 use moka_history::Note;
@@ -33,7 +35,7 @@ use moka_words::Word;
 use std::hash::{BuildHasher, Hash};
 
 /// The last ticket that can be drawn.
-const LAST: u64 = 1 << 60;
+pub(crate) const LAST: u64 = 1 << 60;
 
 /// Where a probe under a hash ended, past so many others, and at which word.
 #[derive(Clone, Copy)]
@@ -46,8 +48,8 @@ pub(crate) struct Gap {
 /// A ticket that was drawn, and the pen of its cell.
 #[derive(Drop)]
 pub(crate) struct Ticketed {
-    ticket: u64,
-    pen: Pen,
+    pub(crate) ticket: u64,
+    pub(crate) pen: Pen,
 }
 
 impl<K: Eq + Hash, V, S: BuildHasher, P: Fact<K, V>, L: Shelf<Node<K, V, S, P>>> HashMap<
@@ -57,8 +59,8 @@ impl<K: Eq + Hash, V, S: BuildHasher, P: Fact<K, V>, L: Shelf<Node<K, V, S, P>>>
     P,
     L,
 > {
-    // How many tickets were drawn. The front becomes the log at the load.
-    fn drawn(&self, front: &mut Seen<Note<K, V, S>, u64, Law>) -> u64
+    /// How many tickets were drawn. The front becomes the log at the load.
+    pub(crate) fn drawn(&self, front: &mut Seen<Note<K, V, S>, u64, Law>) -> u64
         requires book { front.old.book ≡ self.now.book }
         requires log { IsLogOf K.eq (hash_in S.BuildHasher S.Hasher.Hasher K.hash_input)
             (place_in S.BuildHasher S.Hasher.Hasher K.hash_input) self.now front.old.log }
@@ -193,8 +195,28 @@ impl<K: Eq + Hash, V, S: BuildHasher, P: Fact<K, V>, L: Shelf<Node<K, V, S, P>>>
                 seat.mine = with_ticket(ticket, &seat.mine);
                 Put::Done
             }
-            Err(word) => Put::Missed(Missed::Lost(word)),
+            Err(word) => Put::Missed(self.met(&seat.front, gap, word)),
         }
+    }
+
+    // Why an exchange has to be made again that met this word: the word is sealed, or another caller
+    // has exchanged it.
+    fn met(&self, front: &Seen<Note<K, V, S>, u64, Law>, gap: &Gap, word: Word) -> Missed
+        requires log { IsLogOf K.eq (hash_in S.BuildHasher S.Hasher.Hasher K.hash_input)
+            (place_in S.BuildHasher S.Hasher.Hasher K.hash_input) self.now front.now.log }
+        requires reads { ReadsAt self.now gap.now.hash gap.now.passed word front.now.log }
+        ensures met { (old : List (Note K V S)) (ticket : ℕ) → (is_sealed word ≡ false
+            → IsMet self.now gap.now.hash gap.now.passed ticket old word front.now.log)
+            → IsMetBy self.now gap.now.hash gap.now.passed ticket old front.now.log result }
+        ensures misses { (old : List (Note K V S)) (from : Word) (to : Word) → IsChosen from to
+            → IsOther (segment_of self.now.segments gap.now.hash)
+            (bucket_at self.now.size gap.now.hash gap.now.passed) from word front.now.log
+            → MissesBy self.now gap.now.hash gap.now.passed from old front.now.log result }
+    {
+        if is_sealed(word) {
+            return self.sealed(front, gap.hash, gap.passed, word);
+        }
+        Missed::Lost(word)
     }
 
     // Exchanges the word for this one, on the ticket. Answers the word that it met instead.
@@ -224,14 +246,16 @@ impl<K: Eq + Hash, V, S: BuildHasher, P: Fact<K, V>, L: Shelf<Node<K, V, S, P>>>
             (place_in S.BuildHasher S.Hasher.Hasher K.hash_input) self.now gap.now.hash
             gap.now.passed gap.now.word to ticket key e found front.old.log
             → Adds e front.old.log front.new.log) }
-        ensures met { IfErr result (λ word. (key : K) (e : Entry K V) (found : List (Note K V S))
-            → CanChange K.eq (hash_in S.BuildHasher S.Hasher.Hasher K.hash_input)
+        ensures met { IfErr result (λ word. is_sealed word ≡ false
+            → (key : K) (e : Entry K V) (found : List (Note K V S)) → CanChange K.eq (hash_in S.BuildHasher S.Hasher.Hasher K.hash_input)
             (place_in S.BuildHasher S.Hasher.Hasher K.hash_input) self.now gap.now.hash
             gap.now.passed gap.now.word to ticket key e found front.old.log
             → IsMet self.now gap.now.hash gap.now.passed ticket found word front.new.log) }
         ensures exchanged { OnOk result (Exchanged (segment_of self.now.segments gap.now.hash)
             (bucket_at self.now.size gap.now.hash gap.now.passed) gap.now.word to
             front.old.log front.new.log) }
+        ensures reads { IfErr result (λ word. ReadsAt self.now gap.now.hash gap.now.passed word
+            front.new.log) }
         ensures other { IfErr result (λ word. IsOther (segment_of self.now.segments gap.now.hash)
             (bucket_at self.now.size gap.now.hash gap.now.passed) gap.now.word word
             front.new.log) }

@@ -81,6 +81,13 @@ impl<K: Eq + Hash, V, S: BuildHasher, P: Fact<K, V>, L: Shelf<Node<K, V, S, P>>>
         self.segments
     }
 
+    /// How many words the array of each segment has.
+    pub fn words_per_segment(&self) -> usize
+        ensures { result ≡ self.now.size }
+    {
+        self.size
+    }
+
     /// Reads the word of a bucket. The front becomes the log at the load.
     pub(crate) fn load(
         &self,

@@ -2,7 +2,8 @@
 ghost use Rattle.std.specs.Prelude.{◌≡◌, ◌<◌, ◌^◌};
 ghost use Rattle.moka_history.specs.Cells.{number_of};
 ghost use Rattle.moka_history.specs.Keeping.{IsSmall};
-ghost use Rattle.moka_words.specs.Words.{stored_in};
+ghost use Rattle.moka_growth.specs.Growing.{seal_of};
+ghost use Rattle.moka_words.specs.Words.{is_sealed, stored_in};
 ghost use Rattle.moka_words.specs.declared.words.Word.{Word};
 
 use moka_words::Word;
@@ -70,5 +71,35 @@ pub(crate) fn stored_in(word: Word) -> Option<u64>
         Word::SealedEmpty => None,
         Word::SealedLive(number) => Some(number),
         Word::SealedTomb(_) => None,
+    }
+}
+
+/// The word is sealed.
+pub(crate) fn is_sealed(word: Word) -> bool
+    ensures { result ≡ is_sealed word }
+{
+    match word {
+        Word::SealedEmpty => true,
+        Word::SealedLive(_) => true,
+        Word::SealedTomb(_) => true,
+        Word::Unset => false,
+        Word::Empty => false,
+        Word::Live(_) => false,
+        Word::Tomb(_) => false,
+    }
+}
+
+/// The seal of a word.
+pub(crate) fn seal_of(word: Word) -> Word
+    ensures { result ≡ seal_of word }
+{
+    match word {
+        Word::Unset => Word::SealedEmpty,
+        Word::Empty => Word::SealedEmpty,
+        Word::Live(number) => Word::SealedLive(number),
+        Word::Tomb(number) => Word::SealedTomb(number),
+        Word::SealedEmpty => word,
+        Word::SealedLive(_) => word,
+        Word::SealedTomb(_) => word,
     }
 }

@@ -84,7 +84,7 @@ returns-in-Sealed-clause-accesses g c =
     let t = c.args.self.now in
     let key = c.args.key.now in
     subst (λ m. HasCome eq hash place t key kind.Remove c.args.hash c.args.seat.now.front.log c.seek-ended.new.front.log
-    (MissedSo t.size (place t.hasher t.segments key) m)) (sym c.sealed.ensures)
+    (MissedSo t.size (place t.hasher t.segments key) m)) (sym c.sealed.ensures.is)
     (c.in-Sealed.ensures.course key kind.Remove tt c.requires.computes c.requires.hash)
 
 pub returns-in-Full-clause-accesses : goal.returns-in-Full-clause-accesses

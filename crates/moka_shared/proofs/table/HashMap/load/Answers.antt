@@ -3,7 +3,7 @@ use Rattle.moka_shared.specs.Hashing.{hash_in, place_in}
 use Rattle.moka_shared.specs.Steps.{Sees}
 use Rattle.moka_shared.specs.Tables.{IsTable}
 use Rattle.moka_shared.proofs.Loading.{loaded, opened_some, row_is}
-use Rattle.moka_shared.proofs.Row.{bucket_read}
+use Rattle.moka_shared.proofs.Buckets.{bucket_read}
 use Rattle.moka_shared.proofs.table.HashMap.load.Goals as goal
 
 pub look-number-requires : goal.look-number-requires

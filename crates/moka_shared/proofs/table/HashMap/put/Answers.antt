@@ -60,7 +60,7 @@ returns-in-Ok-draw_for-clause-puts g c =
     let former = pair_at (state_of old.front.log).pairs (stored_in gap.word) in
     puts_drawn eq place (hiding g.L.Shelf.hidden g.L.Shelf.last) t gap.hash old record { front = c.draw_for.new.front; hidden = old.hidden; drawn = c.draw_for.new.own; mine = old.mine }
     c.put_on.new.seat goes.begins refl (λ n. entry_put n key value former) gap.passed ticket drawn.late
-    (ap (λ m. m.numbers) c.put_on.ensures.drawn ∙ c.in-Ok-draw_for.ensures.own) c.put_on.result
+    (ap (λ m. m.numbers) c.put_on.ensures.drawn ∙ c.in-Ok-draw_for.ensures.own) (ap (hiding g.L.Shelf.hidden g.L.Shelf.last) c.put_on.ensures.hidden) c.put_on.result
     (c.put_on.ensures.puts key (entry_put ticket key value former) old.front.log can)
 
 pub returns-in-Ok-draw_for-clause-exchange : goal.returns-in-Ok-draw_for-clause-exchange

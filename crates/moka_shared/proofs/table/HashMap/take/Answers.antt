@@ -53,7 +53,7 @@ returns-in-Ok-clause-puts g c = λ p named.
     let own_below : place t.hasher t.segments key < t.segments = subst (λ n. segment_of t.segments n < t.segments) c.requires.hash c.requires.below in
     puts_drawn eq place (hiding g.L.Shelf.hidden g.L.Shelf.last) t gap.hash old record { front = c.draw_for.new.front; hidden = old.hidden; drawn = c.draw_for.new.own; mine = old.mine }
     c.change_on.new.seat goes.begins refl (λ n. entry_taken n p) gap.passed ticket drawn.late
-    (ap (λ m. m.numbers) c.change_on.ensures.drawn ∙ c.in-Ok.ensures.own) c.change_on.result
+    (ap (λ m. m.numbers) c.change_on.ensures.drawn ∙ c.in-Ok.ensures.own) (ap (hiding g.L.Shelf.hidden g.L.Shelf.last) c.change_on.ensures.hidden) c.change_on.result
     (c.change_on.ensures.puts key (entry_taken ticket p) old.front.log
     (can_take eq hash place equals t key own_below gap.hash c.requires.hash old.front.log mid c.requires.log goes.is_log goes.begins gap.passed gap.word
     c.requires.ends c.args.number c.requires.stored p named ticket))
