@@ -1,7 +1,9 @@
 //! Calls of tables of numbers, made by the tests.
 ghost use Rattle.std.specs.Prelude.{◌≡◌};
 
-use moka_shared::{HashMap, Seat, TryChange, TryGet, TryInsert};
+use moka_shared::{HashMap, Missed, Seat, TryChange, TryGet, TryInsert, TrySeal, Unopened};
+use moka_words::Word;
+use std::alloc::Global;
 use std::hash::BuildHasher;
 
 /// Puts the pair where its key is absent.
@@ -110,5 +112,39 @@ impl<'a, S: BuildHasher + Drop> Caller<'a, S> {
     /// The value under the key, if there is one.
     pub(crate) fn value_of(&mut self, key: u64) -> Option<u64> {
         value_of(self.table, &mut self.seat, key)
+    }
+
+    /// The sealed word at which a look for the key stops, its array and its bucket.
+    pub(crate) fn met(&mut self, key: u64) -> Option<(Word, u64, usize)> {
+        let hash = self.table.hash(&key);
+        match self
+            .table
+            .try_get(&mut self.seat, hash, |other: &u64| *other == key)
+        {
+            Ok(TryGet::Again(Missed::Sealed { word, array, index })) => Some((word, array, index)),
+            _ => None,
+        }
+    }
+
+    /// Makes a row of so many words for the first segment. Answers how many it has, and its ticket.
+    pub(crate) fn row(&mut self, alloc: Global, length: usize) -> Result<(usize, u64), Unopened> {
+        if self.table.actual_num_segments() == 0 {
+            return Err(Unopened::Memory);
+        }
+        match self.table.try_open_row(alloc, &mut self.seat, 0, length) {
+            Ok(row) => Ok((row.len(), row.ticket())),
+            Err(why) => Err(why),
+        }
+    }
+
+    /// Seals the word of this bucket of the first segment. Answers what stands there for good.
+    pub(crate) fn sealed(&mut self, index: usize) -> Option<Word> {
+        if self.table.actual_num_segments() == 0 || index >= self.table.words_per_segment() {
+            return None;
+        }
+        match self.table.try_seal(&mut self.seat, 0, index) {
+            TrySeal::Sealed(word) => Some(word),
+            TrySeal::Again(_) => None,
+        }
     }
 }
