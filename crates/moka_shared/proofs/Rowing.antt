@@ -1,13 +1,13 @@
 -- What steps of rows tell.
 use Rattle.std.proofs.Common.{◌≡◌, ◌≢◌, ◌==◌, ℕ, ◌<◌, ◌≤◌, Bool, true, false, List, [], ◌∷◌, ◌++◌, length, Option, Some, None, inl, inr, refl, sym, ap, subst, ◌∙◌, arith, length-append}
 use Rattle.std.proofs.lemmas.Bool.{eq-eqb, false≢true}
-use Rattle.std.specs.Prelude.{IsSome, MatchBool, is_some}
+use Rattle.std.specs.Prelude.{IsSome, is_some}
 use Rattle.std.specs.List.{slice_get}
 use mathlib.Core.List.{IsPrefix}
 use Rattle.logbook.specs.Pages.{Book, Named, Nib, View, inked, left_with, may_make, may_write, nib, step}
 use Rattle.moka_pairs.specs.Keys.{Agrees}
 use Rattle.moka_history.specs.declared.note.Note.{Note}
-use Rattle.moka_history.specs.States.{Array, Plan, Row}
+use Rattle.moka_history.specs.States.{Plan, Row}
 use Rattle.moka_history.specs.Logs.{entries_of, state_of}
 use Rattle.moka_history.specs.Moving.{Added, Adds, AnnouncesArray, BringsHome, HasCell, IsBrought, IsHome, Seals}
 use Rattle.moka_history.specs.Rules.{IsFront, IsKept}
@@ -17,7 +17,7 @@ use Rattle.moka_history.proofs.Owners.{row_is_row}
 use Rattle.moka_shared.specs.declared.answers.Missed.{Missed}
 use Rattle.moka_shared.specs.declared.answers.Missed.TheVariants as missed
 use Rattle.moka_shared.specs.Changes.{IsUndrawn}
-use Rattle.moka_shared.specs.Rows.{AreRow, HoldsTicket, IsAdded, IsAnnounced, IsOfRow, Leaves}
+use Rattle.moka_shared.specs.Rows.{AreRow, HoldsTicket, IsAnnounced, IsOfRow, Leaves}
 use Rattle.moka_shared.specs.Probing.{GoesOn, IsLogOf}
 use Rattle.moka_shared.specs.Tables.{Table, word_named}
 use Rattle.moka_shared.proofs.Loading.{opened_more}

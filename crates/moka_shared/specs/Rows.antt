@@ -14,7 +14,6 @@ use Rattle.moka_history.specs.States.{Array, Plan, Row, memory_of, words_in}
 use Rattle.moka_history.specs.Cells.{number_of}
 use Rattle.moka_history.specs.Keeping.{IsSmall}
 use Rattle.moka_history.specs.Logs.{entries_of, state_of}
-use Rattle.moka_history.specs.Rules.{IsKept}
 use Rattle.moka_shared.specs.declared.asked.Planned.{Planned}
 use Rattle.moka_shared.specs.declared.asked.Seal.{Seal}
 use Rattle.moka_shared.specs.declared.answers.Missed.{Missed}
