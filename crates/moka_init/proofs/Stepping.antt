@@ -1,13 +1,15 @@
 -- A step makes the flow's access, and goes on with what it gave.
 use Rattle.std.proofs.Common.{◌≡◌, Bool, List, Some, sym, subst, ◌∙◌}
 use Rattle.moka_hist.specs.State.{World}
-use Rattle.moka_hist.specs.Step.{next_of}
+use Rattle.moka_hist.specs.Next.{Next}
+use Rattle.moka_hist.specs.Step.{CallMoves, May, next_of}
 use Rattle.moka_hist.specs.declared.accesses.Got.{Got}
 use Rattle.moka_hist.specs.declared.accesses.Turn.{Turn}
 use Rattle.moka_hist.specs.declared.accesses.Turn.TheVariants as turn
 use Rattle.moka_bound.specs.Falling.{Counts}
 use Rattle.moka_init.specs.declared.flow.Flow.{Flow}
 use Rattle.moka_init.specs.FlowPlan.{call_of, is_begun, next_in}
+use Rattle.moka_init.specs.Forms.{HasForm}
 use Rattle.moka_init.specs.Grounds.{Account, Accesses, Gives, IsOn, access_at}
 use Rattle.moka_init.specs.Steps.{MovesThere, Nears}
 use Rattle.moka_init.specs.Telling.{Made, TellsStep}
@@ -16,9 +18,15 @@ use Rattle.moka_init.proofs.Near.{near}
 
 module _ {K V E : Type 0} where
   pub moves_so : (eq : K → K → Bool) (old new : Flow K V E) (t : Turn K V E) (given : Got K V E) (stood stands : World K V E → Type 0) →
-      Gives eq old.call stood (access_at old) given stands → next_in t new ≡ next_of old.call (call_of old) given → MovesThere eq stood old (next_in t new) stands
-  moves_so eq old new t given stood stands gives next =
-      λ w h may. let r = gives w h may in (r.0, record { given = given; gets = r.1; goes = next }, r.2)
+      Gives eq old.call stood (access_at old) given stands → HasForm (access_at old) given → next_in t new ≡ next_of old.call (call_of old) given →
+      MovesThere eq stood old (next_in t new) stands
+  moves_so eq old new t given stood stands gives form next = (given, form, next, gives)
+
+  -- so it moves in each of these worlds
+  pub moves_in : (eq : K → K → Bool) (flow : Flow K V E) (next : Next K V E) (stood stands : World K V E → Type 0) → MovesThere eq stood flow next stands →
+      (w : World K V E) → stood w → May w (access_at flow) → (new : World K V E) × CallMoves eq flow.call (call_of flow) w next new × stands new
+  moves_in eq flow next stood stands moves w h may =
+      let r = moves.3 w h may in (r.0, record { given = moves.0; gets = r.1; goes = moves.2 }, r.2)
 
   pub tells_step : (old new : Flow K V E) (t : Turn K V E) (given : Got K V E) (account then : Account K V E) →
       Accesses account (access_at old) given then → next_in t new ≡ next_of old.call (call_of old) given →

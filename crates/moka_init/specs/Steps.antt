@@ -3,10 +3,12 @@ use Rattle.std.specs.Prelude.{◌≡◌, ◌⊎◌, ◌<◌, ℕ, Bool, List, So
 use Rattle.moka_hist.specs.Bound.{as_told}
 use Rattle.moka_hist.specs.Next.{Next}
 use Rattle.moka_hist.specs.State.{World}
-use Rattle.moka_hist.specs.Step.{Access, CallMoves, MovesOn, Polled, IsSafe, May}
+use Rattle.moka_hist.specs.Step.{Access, MovesOn, Polled, IsSafe, May, next_of}
+use Rattle.moka_hist.specs.declared.accesses.Got.{Got}
 use Rattle.moka_bound.specs.Ahead.{ahead}
 use Rattle.moka_init.specs.FlowPlan.{call_of}
-use Rattle.moka_init.specs.Grounds.{Account, TakesCopies, access_at, work_for}
+use Rattle.moka_init.specs.Forms.{HasForm}
+use Rattle.moka_init.specs.Grounds.{Account, Gives, TakesCopies, access_at, work_for}
 use Rattle.moka_init.specs.Telling.{Made, TellsSteps}
 use Rattle.moka_init.specs.declared.flow.Flow.{Flow}
 
@@ -15,11 +17,13 @@ abbrev pub Worlds : (K V E : Type 0) → Type 1
 Worlds K V E = World K V E → Type 0
 
 module _ {K V E : Type 0} where
-  -- the call moves by one step in each of these worlds that has what the step needs
+  -- The call moves by one step: its access gave this, from which it follows how the call goes on.
+  -- Each of these worlds that has what the step needs gave it so.
   abbrev pub MovesThere : (K → K → Bool) → Worlds K V E → Flow K V E → Next K V E → Worlds K V E → Type 0
   MovesThere eq stood flow next stands =
-      (w : World K V E) → stood w → May w (access_at flow)
-      → (new : World K V E) × CallMoves eq flow.call (call_of flow) w next new × stands new
+      (given : Got K V E) × HasForm (access_at flow) given
+      × (next ≡ next_of flow.call (call_of flow) given)
+      × Gives eq flow.call stood (access_at flow) given stands
 
   -- it moves up to the first turn that isn't Going, in each of these worlds that has what its steps
   -- need

@@ -181,19 +181,19 @@ module _ {K V E S H : Type 0} {same : PartialEq.Ghosts K} {hash : Hash.Ghosts K}
       → ((given : Got K V E) (after : World K V E) → Gets eq flow.call w (access_at flow) given after → TookBy (access_at flow) given such)
       → MovesThere eq (ReachIs eq old) flow next (ReachIs eq new) → EndedWith eq such flow.call (call_of flow) next
   step_ends such old new flow next w reach ends may took moves =
-      let m = moves w reach may in record {
+      let m = moves.3 w reach may in record {
         call = call_of flow;
         came = ([], refl);
-        given = m.1.given;
-        last = record { world = w; after = m.0; sound = reach.sound; ends = ends; may = may; gets = m.1.gets };
-        took = took m.1.given m.0 m.1.gets;
-        follows = m.1.goes;
+        given = moves.0;
+        last = record { world = w; after = m.0; sound = reach.sound; ends = ends; may = may; gets = m.1 };
+        took = took moves.0 m.0 m.1;
+        follows = moves.2;
       }
 
   pub step_keeps : {A F : Type 0} (r : Result A F) (next : A → Next K V E) (old new : CacheLayers K V E S H same hash build hasher) (flow : Flow K V E) (w : World K V E) → ReachIs eq old w → May w (access_at flow)
       → IfOk r (λ a. MovesThere eq (ReachIs eq old) flow (next a) (ReachIs eq new))
       → OnErr r ((w : World K V E) → ReachIs eq old w → ReachIs eq new w) → new.begun ≡ None → IsKept eq new
-  step_keeps (Ok a) next old new flow w reach may moves stays none = let m = moves w reach may in kept_of new m.0 m.2 none
+  step_keeps (Ok a) next old new flow w reach may moves stays none = let m = moves.3 w reach may in kept_of new m.0 m.2 none
   step_keeps (Err e) next old new flow w reach may moves stays none = kept_of new w (stays w reach) none
 
   -- the flow has none begun after the step either

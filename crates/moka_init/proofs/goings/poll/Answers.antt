@@ -1,10 +1,11 @@
 -- What the steps so far did, and one more.
 use Rattle.std.proofs.Common.{◌≡◌, ◌+◌, true, refl, sym, subst, ◌∙◌, ◌++◌, ◌⊎◌, arith}
 use Rattle.moka_hist.specs.Step.{Access}
-use Rattle.moka_init.specs.FlowPlan.{call_of}
+use Rattle.moka_init.specs.FlowPlan.{call_of, next_in}
 use Rattle.moka_init.specs.Grounds.{Account, IsOn, TakesCopies}
 use Rattle.moka_init.proofs.Going.{moves_none, live_going, may_fit, safe_next, flow_more, flow_last, has_log_still}
 use Rattle.moka_init.proofs.Still.{access_still, live_still, on_still}
+use Rattle.moka_init.proofs.Stepping.{moves_in}
 use Rattle.moka_init.proofs.Told.{told_none, told_more, told_last}
 use Rattle.moka_init.proofs.goings.poll.Goals as goal
 
@@ -26,7 +27,8 @@ pub returns-then-not-is_going-clause-polls : goal.returns-then-not-is_going-clau
 returns-then-not-is_going-clause-polls g c = λ w h safe.
     let so_far = c.loop-turn.invariant in
     let m = so_far.1.moved w h safe in
-    let r = c.in-Ok.ensures.moves m.0 m.2 (safe_next g.K.PartialEq.eq so_far.0 c.args.flow.now c.loop-turn.flow w m.0 so_far.1.number m.1 safe) in (
+    let r = moves_in g.K.PartialEq.eq c.loop-turn.flow (next_in c.in-Ok.turn c.step.new.flow) (g.G.Ground.stands c.loop-turn.ground) (g.G.Ground.stands c.step.new.ground) c.in-Ok.ensures.moves m.0 m.2
+    (safe_next g.K.PartialEq.eq so_far.0 c.args.flow.now c.loop-turn.flow w m.0 so_far.1.number m.1 safe) in (
       r.0,
       flow_last g.K.PartialEq.eq so_far.0 c.args.flow.now c.loop-turn.flow c.step.new.flow w m.0 r.0 c.in-Ok.turn so_far.1.number
           (λ e. let f : c.is_going.result ≡ true = c.is_going.ensures.1 e in cc) m.1 r.1,
@@ -53,7 +55,8 @@ loop-turn-preserved g c =
         so_many = omega (arith, so_far.1.so_many, c.saturating_add-steps.ensures);
         moved = λ w h safe.
             let m = so_far.1.moved w h safe in
-            let r = c.in-Ok.ensures.moves m.0 m.2 (safe_next g.K.PartialEq.eq so_far.0 c.args.flow.now c.loop-turn.flow w m.0 so_far.1.number m.1 safe) in
+            let r = moves_in g.K.PartialEq.eq c.loop-turn.flow (next_in c.in-Ok.turn c.step.new.flow) (g.G.Ground.stands c.loop-turn.ground) (g.G.Ground.stands c.step.new.ground) c.in-Ok.ensures.moves m.0 m.2
+            (safe_next g.K.PartialEq.eq so_far.0 c.args.flow.now c.loop-turn.flow w m.0 so_far.1.number m.1 safe) in
             (r.0, flow_more g.K.PartialEq.eq so_far.0 c.args.flow.now c.loop-turn.flow c.step.new.flow w m.0 r.0 c.in-Ok.turn so_far.1.number going m.1 r.1, r.2);
         told = λ before e.
             let told = so_far.1.told before e in

@@ -27,7 +27,7 @@ returns-clause-moves g c =
     let on : wanted (g.G.Ground.account c.args.ground.now).begun c.in_ok-want.want ≡ Some (access_at flow) = rw c.in_ok-want.ensures.want c.requires.on.begun in
     let next = c.take.ensures.next ∙ next_still flow c.want.new.self c.in_ok-given.given c.in_ok-want.ensures.still in
     moves_so g.K.PartialEq.eq flow c.take.new.self c.take.result c.in_ok-given.given (g.G.Ground.stands c.args.ground.now) (g.G.Ground.stands c.access.new.self)
-    (rw c.requires.on.call at c.in_ok-given.ensures.gives (access_at flow) on) next
+    (rw c.requires.on.call at c.in_ok-given.ensures.gives (access_at flow) on) (c.in_ok-given.ensures.tells (access_at flow) on).form next
 
 pub returns-clause-tells : goal.returns-clause-tells
 returns-clause-tells g c =

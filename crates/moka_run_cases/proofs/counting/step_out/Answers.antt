@@ -11,8 +11,9 @@ use Rattle.moka_init.specs.declared.flow.Flow.{Flow}
 use Rattle.moka_init.specs.FlowPlan.{call_of, next_in}
 use Rattle.moka_init.specs.Grounds.{access_at}
 use Rattle.moka_init.proofs.Going.{may_want}
+use Rattle.moka_init.proofs.Stepping.{moves_in}
 use Rattle.moka_laws.proofs.Outcomes.{put_same}
-use Rattle.moka_machine.specs.Machine.{IsOut, MachineIs, TakenOut}
+use Rattle.moka_machine.specs.Machine.{IsOut, MachineIs, Reaches, TakenOut}
 use Rattle.moka_machine.specs.declared.machine.Machine.{Machine}
 use Rattle.moka_machine.proofs.Stepping.{still_without, still_out}
 use Rattle.moka_run_cases.proofs.counting.step_out.Goals as goal
@@ -42,8 +43,8 @@ returns-in-Ok g c =
     let h = taken.1.rest in
     let n = c.args.call in
     let number : flow.call ≡ n = sym was.on.call ∙ h.number in
-    let m = c.in-Ok.ensures.moves s.world h.reaches taken.3 in
     let next = next_in c.in-Ok.turn c.step-stepped.new.flow in
+    let m = moves_in eq flow next (Reaches eq g.T.Tests c.args.machine) (Reaches eq g.T.Tests c.step-stepped.new.ground.machine) c.in-Ok.ensures.moves s.world h.reaches taken.3 in
     let moved : CallMoves eq n (call_of flow) s.world next m.0 =
     subst (λ (x : ℕ). CallMoves eq x (call_of flow) s.world next m.0) number m.1 in
     let after = state_after s n m.0 next in

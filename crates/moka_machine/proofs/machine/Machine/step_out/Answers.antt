@@ -6,6 +6,7 @@ use Rattle.moka_hist.specs.Step.{May, CallMoves}
 use Rattle.moka_init.specs.declared.flow.Flow.{Flow}
 use Rattle.moka_init.specs.FlowPlan.{call_of, next_in}
 use Rattle.moka_init.specs.Grounds.{NeedsMemory, access_at}
+use Rattle.moka_init.proofs.Stepping.{moves_in}
 use Rattle.moka_machine.specs.Machine.{IsOut, KeepsOut, MachineIs, Reaches, StepOut}
 use Rattle.moka_machine.proofs.Needing.{either_needs}
 use Rattle.moka_machine.proofs.Stepping.{still_without, still_out}
@@ -18,8 +19,8 @@ returns-in-Ok-clause-steps g c =
     let same : flow ≡ c.args.flow.value = c.deref_mut.ensures.value in
     let out = subst (λ (f : Flow g.row.K.Denot g.row.V.Denot g.row.E.Denot). IsOut eq c.args.self.now f) (sym same) c.requires.out in
     subst (λ (f : Flow g.row.K.Denot g.row.V.Denot g.row.E.Denot). StepOut eq g.T.Tests c.args.self.now c.args.call f c.after_step.result c.after_step.new.self) same (λ others w h may.
-    let m = c.in-Ok.ensures.moves w h.reaches may in
     let next = next_in c.in-Ok.turn c.step.new.flow in
+    let m = moves_in eq flow next (Reaches eq g.T.Tests c.args.self.now) (Reaches eq g.T.Tests c.step.new.ground) c.in-Ok.ensures.moves w h.reaches may in
     let number : flow.call ≡ c.args.call = sym out.on.call ∙ h.number in (
       next,
       m.0,
