@@ -4,7 +4,7 @@ ghost use Rattle.std.specs.Prelude.{◌≡◌, ℕ, true, Some, None, ◌++◌, 
 ghost use Rattle.moka_sync.specs.Waiting.{without};
 
 use crate::Desk;
-use moka_hist::{Claim, Kind, Load, Owed, Settled, Takes, Told};
+use moka_hist::{Claim, Kind, Load, Owed, Settled, Takes, Told, Write};
 use moka_sync::CallList;
 use moka_values::Exact;
 use std::alloc::AllocError;
@@ -200,13 +200,12 @@ impl<K: Eq + Hash + Exact, V: Drop, E: Drop, S: BuildHasher + Drop> Desk<K, V, E
     }
 
     /// Lets a dropped call leave. The write that it held, and hands in, is owed, with its notice
-    /// where that still runs. Its ask is closed, its lock is free, it waits for nobody, and the
-    /// calls that wait for it read that it was dropped. A listener that it asked is still asked.
-    /// Hands out the calls that wait for its load, and then those that wait for its lock.
-    pub fn leave(&mut self, call: u64, held: Option<Owed>) -> CallList
-        requires { CanLeave K.eq self.old call (option_map (λ o. o.write) held) }
-        ensures makes { (w : DeskPart K V E) → StandsFor K.eq self.old w
-            → MayLeave w call (option_map (λ o. o.write) held) →
+    /// where that runs. Its ask is closed, its lock is free, it waits for nobody, and the calls that
+    /// wait for it read that it was dropped. A listener that it asked is still asked. Hands out the
+    /// calls that wait for its load, and then those that wait for its lock.
+    pub fn leave(&mut self, call: u64, held: Option<Write>) -> CallList
+        requires { CanLeave K.eq self.old call held }
+        ensures makes { (w : DeskPart K V E) → StandsFor K.eq self.old w → MayLeave w call held →
             StandsFor K.eq self.new (left w call held) }
         ensures woken { result
             ≡ without call (settlement_line self.old call) ++
@@ -217,22 +216,23 @@ impl<K: Eq + Hash + Exact, V: Drop, E: Drop, S: BuildHasher + Drop> Desk<K, V, E
         ensures misses { MissWith K.eq self.old (λ w. left w call held) self.new }
         ensures kept { KeepsAsBefore self.old self.new }
     {
-        let held = self.still_heard(held);
-        self.writes.leave(call, held);
+        let owed = self.owed_as(held);
+        self.writes.leave(call, owed);
         self.loads.leave(call);
         self.locks.free(call);
         self.asks.leave(call);
         self.waits.leave(call)
     }
 
-    // The write that is handed in, with its notice where that still runs.
-    fn still_heard(&self, held: Option<Owed>) -> Option<Owed>
-        ensures same { option_map (λ o. o.write) result ≡ option_map (λ o. o.write) held }
+    // The write that is handed in, if one is, as it is owed: with its notice, where that runs.
+    fn owed_as(&self, held: Option<Write>) -> Option<Owed>
+        ensures same { option_map (λ o. o.write) result ≡ held }
         ensures notice { (w : DeskPart K V E) → StandsFor K.eq self.now w →
             result ≡ option_map (owed_with w) held }
     {
-        let Owed { write, notice } = held?;
-        let notice = notice.filter(|number| self.notices.is_running(*number));
+        let write = held?;
+        let number = write.number();
+        let notice = self.notices.is_running(number).then_some(number);
         Some(Owed { write, notice })
     }
 }

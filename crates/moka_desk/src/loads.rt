@@ -36,7 +36,7 @@ impl<K: Eq + Hash + Exact, V: Drop, E: Drop, S: BuildHasher> Loads<K, V, E, S> {
     ghost use Rattle.moka_hist.specs.State.{DeskPart};
     ghost use Rattle.moka_hist.specs.declared.loads.Load.{Load as load_of};
     ghost use Rattle.moka_hist.specs.declared.visits.Settled.TheVariants as settled;
-    ghost use Rattle.moka_hist.specs.declared.writes.Owed.{Owed};
+    ghost use Rattle.moka_hist.specs.declared.writes.Write.{Write};
     ghost use Rattle.moka_hist.specs.Visits.{claim_of, claimed, claimed_alone, read, readers_without, settled_without, settled_as, owners_without, settlement_for};
     ghost use Rattle.moka_hist.specs.Dropping.{left};
     ghost use Rattle.moka_desk.specs.Loads.{load_part, unsettled, LoadsAre, LoadsBecome, LoadsStay, LoadsMake};
@@ -204,7 +204,7 @@ impl<K: Eq + Hash + Exact, V: Drop, E: Drop, S: BuildHasher> Loads<K, V, E, S> {
     /// The call waits for nobody and owns nothing any more; those that wait for it read that it was
     /// dropped.
     pub(crate) fn leave(&mut self, call: u64)
-        ensures { (w : DeskPart K V E) (held : Option Owed) → LoadsAre K.eq self.old (load_part w)
+        ensures { (w : DeskPart K V E) (held : Option Write) → LoadsAre K.eq self.old (load_part w)
             → LoadsAre K.eq self.new (load_part (left w call held)) }
     {
         let awaited = self.readers_of(call) > 0;

@@ -1,6 +1,5 @@
 -- What a walk lists first, and that it holds no write.
 use Rattle.std.proofs.Common.{◌≡◌, ℕ, zero, suc, ◌+◌, ◌-◌, List, [], ◌∷◌, ◌++◌, map, None, refl, ap, ◌∙◌, arith}
-use Rattle.moka_hist.specs.Dropping.{owed_by}
 use Rattle.moka_hist.specs.Plan.{Item, held_by, lists_from, walk_from}
 use Rattle.moka_hist.specs.Plan as plan
 use Rattle.moka_hist.specs.declared.replies.Answer.TheVariants as answer
@@ -42,8 +41,8 @@ module _ (K V E : Type 0) where
   walk_holds (walk.Find key rest) = rest_holds rest
   walk_holds (walk.Scan key stored rest) = rest_holds rest
 
-  pub owes_none : (n : ℕ) (flow : Flow K V E) (w : Walk K V) → flow.point ≡ point.Walking w → None ≡ owed_by n (call_of flow)
-  owes_none n flow w stands = rw (stands, walk_holds w) refl
+  pub holds_none : (flow : Flow K V E) (w : Walk K V) → flow.point ≡ point.Walking w → None ≡ held_by (call_of flow).plan
+  holds_none flow w stands = rw (stands, walk_holds w) refl
 
   -- ---- maintenance
 
@@ -65,5 +64,5 @@ module _ (K V E : Type 0) where
   maintenance_holds (maintenance.Strike key stored rest ids) = to_retire_holds rest
   maintenance_holds _ = refl
 
-  pub maintenance_owes_none : (n : ℕ) (flow : Flow K V E) (m : Maintenance K V) → flow.point ≡ point.Maintaining m → None ≡ owed_by n (call_of flow)
-  maintenance_owes_none n flow m stands = rw (stands, maintenance_holds m) refl
+  pub maintenance_holds_none : (flow : Flow K V E) (m : Maintenance K V) → flow.point ≡ point.Maintaining m → None ≡ held_by (call_of flow).plan
+  maintenance_holds_none flow m stands = rw (stands, maintenance_holds m) refl

@@ -2,12 +2,11 @@
 use Rattle.std.specs.Prelude.{◌≡◌, ℕ, Bool, true, false, List, [], ◌∷◌, Option, Some, None}
 use Rattle.std.specs.Option.{option_map}
 use Rattle.moka_hist.specs.State.{Call}
-use Rattle.moka_hist.specs.Plan.{Item, held_by, hearing}
+use Rattle.moka_hist.specs.Plan.{Item, held_by}
 use Rattle.moka_hist.specs.Next.{Next}
 use Rattle.moka_hist.specs.Step.{going_as, replace_of}
 use Rattle.moka_hist.specs.declared.records.Mode.TheVariants as mode
 use Rattle.moka_hist.specs.Plan as plan
-use Rattle.moka_hist.specs.declared.writes.Owed.{Owed}
 use Rattle.moka_hist.specs.declared.visits.Visit.{Visit}
 use Rattle.moka_hist.specs.declared.visits.Visit.TheVariants as visit
 use Rattle.moka_hist.specs.declared.accesses.Turn.{Turn}
@@ -32,11 +31,6 @@ module _ {K V E : Type 0} where
         aborts = flow.aborts;
         carried = carried_at flow.point;
       }
-
-  -- what the call of this number holds that has this to do: the write, and the notice that it hears
-  abbrev pub owed_in : ℕ → List (Item K V E) → Option Owed
-  owed_in n items =
-      option_map (λ write. record { write = write; notice = hearing n items }) (held_by items)
 
   -- the visit that opens the notice with which the plan of the call of this number starts, if it
   -- does

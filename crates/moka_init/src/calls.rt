@@ -2,20 +2,20 @@
 ghost use Rattle.std.specs.Prelude.{◌≡◌, Some, None, false, IfOk, MatchOption};
 ghost use Rattle.moka_hist.specs.Step.{access_for, On_desk, replace_of};
 ghost use Rattle.moka_hist.specs.Plan as plan;
-ghost use Rattle.moka_hist.specs.Plan.{hearing};
+ghost use Rattle.moka_hist.specs.Plan.{hearing, held_by};
 ghost use Rattle.std.specs.Option.{option_map};
 ghost use Rattle.moka_needs.specs.Reads.{kind_read};
-ghost use Rattle.moka_init.specs.PointPlan.{aim_of, posting_plan, listening_plan};
-ghost use Rattle.moka_init.specs.FlowPlan.{carries_in, opening, owed_in, retires_in, takes_told};
+ghost use Rattle.moka_init.specs.PointPlan.{aim_of, listening_plan};
+ghost use Rattle.moka_init.specs.FlowPlan.{carries_in, opening, retires_in, takes_told};
 ghost use Rattle.moka_init.specs.FlowPlan.{tested_in};
 
 use crate::copies::replace_of;
 use crate::flow::Flow;
 use crate::points::{
-    Computing, Listening, Loading, Look, Looking, Maintenance, Point, PostStep, Posted, Posting,
-    Removing, Walk,
+    Computing, Listening, Loading, Look, Looking, Maintenance, Point, PostStep, Posting, Removing,
+    Walk,
 };
-use moka_hist::{Cause, IdList, Kind, Mode, Owed, Rules, Start, Stored, Visit, Write};
+use moka_hist::{Cause, IdList, Kind, Mode, Rules, Start, Stored, Visit, Write};
 use moka_values::Exact;
 use std::alloc::AllocError;
 
@@ -44,7 +44,6 @@ impl<K: Drop, V: Drop, E: Drop> Flow<K, V, E> {
 }
 
 impl<K, V, E> Flow<K, V, E> {
-    ghost use Rattle.moka_hist.specs.Dropping.{owed_by};
     ghost use Rattle.moka_init.specs.FlowPlan.{call_of, is_over};
 
     /// How far the call is.
@@ -153,20 +152,15 @@ impl<K, V, E> Flow<K, V, E> {
         }
     }
 
-    /// The write that the call holds, with the notice that it hears.
-    pub fn held(&self) -> Option<Owed>
-        ensures { result ≡ owed_by self.now.call (call_of self.now) }
+    /// The write that the call holds: its own, or an owed one that it took up.
+    pub fn held(&self) -> Option<Write>
+        ensures { result ≡ held_by (call_of self.now).plan }
     {
         match &self.point {
-            Point::Posting(Posting::Held { step, write, .. }) => {
-                Some(held_at::<K, V, E>(self.call, *step, *write))
-            }
-            Point::Listening(Listening::Ended { notice, write, .. }) => Some(Owed {
-                write: *write,
-                notice: Some(*notice),
-            }),
-            Point::Listening(Listening::Notice { write, .. }) => Some(unheard(*write)),
-            Point::Listening(Listening::Uncopied { write, .. }) => Some(unheard(*write)),
+            Point::Posting(Posting::Held { write, .. }) => Some(*write),
+            Point::Listening(Listening::Ended { write, .. }) => Some(*write),
+            Point::Listening(Listening::Notice { write, .. }) => Some(*write),
+            Point::Listening(Listening::Uncopied { write, .. }) => Some(*write),
             Point::Walking(_) => None,
             Point::Maintaining(_) => None,
             _ => None,
@@ -186,21 +180,6 @@ impl<K: Exact, V: Exact, E: Exact> Flow<K, V, E> {
             Point::Listening(listening) => due_in_listening(self.call, listening),
             _ => Ok(None),
         }
-    }
-}
-
-// The write that this call holds, with the notice that it hears, where this is its next step with
-// the write.
-fn held_at<K, V, E>(call: u64, step: PostStep, write: Write) -> Owed
-    ensures { (then : Posted K V) → Some result
-        ≡ owed_in {E = E} call (posting_plan (Posting.Held step write then)) }
-{
-    match step {
-        PostStep::Hear => Owed {
-            write,
-            notice: Some(call),
-        },
-        _ => unheard(write),
     }
 }
 
@@ -262,15 +241,5 @@ fn tested_by<'a, K, V>(look: &Look<K, V>, stored: &'a Stored<V>) -> Option<&'a V
     match replace_of(look) {
         Some(_) => Some(&stored.value),
         None => None,
-    }
-}
-
-// A write of whose notice nothing is to be heard.
-fn unheard(write: Write) -> Owed
-    ensures { result ≡ record { write = write; notice = None } }
-{
-    Owed {
-        write,
-        notice: None,
     }
 }

@@ -4,7 +4,6 @@ use Rattle.std.specs.declared.cmp.PartialEq as PartialEq
 use Rattle.std.specs.declared.hash.Hash as Hash
 use Rattle.std.specs.declared.hash.Hasher as Hasher
 use Rattle.std.specs.declared.hash.BuildHasher as BuildHasher
-use Rattle.std.specs.Option.{option_map}
 use Rattle.std.proofs.lemmas.Bool.{ltb-true}
 use Rattle.moka_hist.specs.Conditions.{MayLeave, MayVisit}
 use Rattle.moka_hist.specs.Visits.{makes}
@@ -14,7 +13,7 @@ use Rattle.moka_hist.specs.Dropping.{left}
 use Rattle.moka_hist.specs.Run.{last_call}
 use Rattle.moka_hist.specs.SoundDesk.{SoundDesk}
 use Rattle.moka_hist.specs.State.{DeskPart, Handed}
-use Rattle.moka_hist.specs.declared.writes.Owed.{Owed}
+use Rattle.moka_hist.specs.declared.writes.Write.{Write}
 use Rattle.moka_desk.specs.StandsFor.{StandsFor}
 use Rattle.moka_desk.specs.declared.state.Desk.{Desk}
 use Rattle.moka_hist.specs.Telling.{told}
@@ -152,9 +151,9 @@ module _ {K V E S H : Type 0} {same : PartialEq.Ghosts K} {hash : Hash.Ghosts K}
     by w false is found = absurd (none-some (w.last + 1) found)
 
   -- a call leaves
-  pub kept_left : (layers : CacheLayers K V E S H same hash build hasher) (desk : Desk K V E S H same hash build hasher) (call : ℕ) (held : Option Owed) → LeavingKeepsSound K V E eq
-      → ((w : DeskPart K V E) → StandsFor eq layers.desk w → MayLeave w call (option_map (λ o. o.write) held) → StandsFor eq desk (left w call held))
-      → (kept : IsKept eq layers) → MayLeave kept.world.desk call (option_map (λ o. o.write) held) → IsKept eq (record layers { desk = desk })
+  pub kept_left : (layers : CacheLayers K V E S H same hash build hasher) (desk : Desk K V E S H same hash build hasher) (call : ℕ) (held : Option Write) → LeavingKeepsSound K V E eq
+      → ((w : DeskPart K V E) → StandsFor eq layers.desk w → MayLeave w call held → StandsFor eq desk (left w call held))
+      → (kept : IsKept eq layers) → MayLeave kept.world.desk call held → IsKept eq (record layers { desk = desk })
   kept_left layers desk call held law makes kept may =
       with_desk layers desk (left kept.world.desk call held) kept (makes kept.world.desk kept.stands.desk may) (law kept.world.desk call held kept.sound may) refl refl (omega arith)
 

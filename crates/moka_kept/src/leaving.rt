@@ -1,16 +1,15 @@
 //! How a call leaves that has not answered.
 ghost use Rattle.std.specs.Prelude.{◌≡◌, IfNone, OnSome};
-ghost use Rattle.std.specs.Option.{option_map};
 ghost use Rattle.moka_desk.specs.StandsFor.{StandsFor};
 ghost use Rattle.moka_hist.specs.Conditions.{MayLeave};
-ghost use Rattle.moka_hist.specs.Dropping.{left, owed_by};
+ghost use Rattle.moka_hist.specs.Dropping.{left};
+ghost use Rattle.moka_hist.specs.Plan.{held_by};
 ghost use Rattle.moka_hist.specs.State.{DeskPart};
 ghost use Rattle.moka_init.specs.FlowPlan.{call_of};
 ghost use Rattle.moka_kept.specs.Kept.{IsKept};
 
 use crate::ground::Reach;
 use crate::parked::HandedOut;
-use moka_hist::{Owed, Write};
 use moka_init::Flow;
 use moka_values::Exact;
 use std::hash::{BuildHasher, Hash};
@@ -31,31 +30,21 @@ impl<K: Eq + Hash + Exact, V: Exact, E: Exact, S: BuildHasher + Drop> Reach<K, V
         // What the call holds is left, exactly where the desk allows it.
         ensures left { OnSome result.1 ((w : DeskPart K V E)
             → StandsFor K.eq self.old.layers.desk w → StandsFor K.eq self.new.layers.desk
-            (left w flow.now.call (owed_by flow.now.call (call_of flow.now)))) }
+            (left w flow.now.call (held_by (call_of flow.now).plan))) }
         ensures refused { IfNone result.1 ((w : DeskPart K V E)
-            → StandsFor K.eq self.old.layers.desk w → MayLeave w flow.now.call
-            (option_map (λ o. o.write) (owed_by flow.now.call (call_of flow.now))) → ⊥) }
+            → StandsFor K.eq self.old.layers.desk w
+            → MayLeave w flow.now.call (held_by (call_of flow.now).plan) → ⊥) }
         ensures call { result.0.call ≡ flow.now.call }
     {
         moka_laws::leaving_keeps_sound::<K, V, E>();
         let call = flow.number();
         let held = flow.held();
-        match self.layers.desk.may_leave(call, write_of(&held)) {
+        match self.layers.desk.may_leave(call, held) {
             true => (
                 Left { call },
                 Some(HandedOut::of(self.layers.desk.leave(call, held))),
             ),
             false => (Left { call }, None),
         }
-    }
-}
-
-// The write that is handed in, if one is.
-fn write_of(held: &Option<Owed>) -> Option<Write>
-    ensures { result ≡ option_map (λ o. o.write) held.now }
-{
-    match held {
-        Some(owed) => Some(owed.write),
-        None => None,
     }
 }

@@ -4,9 +4,9 @@ use Rattle.std.specs.Option.{option_map, option_to_list}
 use Rattle.std.proofs.lemmas.Bool.{eqb-true}
 use Rattle.moka_hist.specs.Finite.{times, put_at}
 use Rattle.moka_hist.specs.State.{State, World, Call}
-use Rattle.moka_hist.specs.Plan.{held_by, hearing}
+use Rattle.moka_hist.specs.Plan.{held_by}
 use Rattle.moka_hist.specs.Next.{Next}
-use Rattle.moka_hist.specs.Dropping.{dropped, owed_by, owed_with}
+use Rattle.moka_hist.specs.Dropping.{dropped, owed_with}
 use Rattle.moka_hist.specs.Step.{Step, state_after}
 use Rattle.moka_hist.specs.Run.{IsReached, started, fresh_call}
 use Rattle.moka_hist.specs.declared.events.Start.{Start}
@@ -98,11 +98,10 @@ module _ {K V E : Type 0} (eq : K → K → Bool) where
       }
 
   -- what a dropped call leaves is the write that it held
-  pub gives_up : (s : State K V E) (n : ℕ) (c : Call K V E) (x : ℕ) (o : Option Write) →
-      among_owed x (option_to_list (option_map (owed_with s.world.desk) (option_map (λ v. record { write = v; notice = hearing n c.plan }) o))) ≡
-      among x (option_to_list o)
-  gives_up s n c x None = refl
-  gives_up s n c x (Some v) = refl
+  pub gives_up : (s : State K V E) (x : ℕ) (o : Option Write) →
+      among_owed x (option_to_list (option_map (owed_with s.world.desk) o)) ≡ among x (option_to_list o)
+  gives_up s x None = refl
+  gives_up s x (Some v) = refl
 
   -- a dropped call leaves the write that it holds
   balanced_drop : (s : State K V E) (n : ℕ) (c : Call K V E) → s.calls n ≡ Some c → IsBalanced s → IsBalanced (dropped s n c)
@@ -120,8 +119,8 @@ module _ {K V E : Type 0} (eq : K → K → Bool) where
         let change = sum_change s.world.desk.last f g n (i.numbered n c live) (λ m h. ap (weigh_call (post_of x)) (put_there s.calls n None m h)) in
         let before = ap (weigh_call (post_of x)) live in
         let after = ap (weigh_call (post_of x)) (put_here s.calls n None) in
-        let new = option_to_list (option_map (owed_with s.world.desk) (owed_by n c)) in
-        omega (arith, i.balance x, posts_held x c.plan (i.tidy n c live), owed_append x s.world.desk.owed new, gives_up s n c x (held_by c.plan));
+        let new = option_to_list (option_map (owed_with s.world.desk) (held_by c.plan)) in
+        omega (arith, i.balance x, posts_held x c.plan (i.tidy n c live), owed_append x s.world.desk.owed new, gives_up s x (held_by c.plan));
   }
 
   pub balanced_kept : IsInvariant eq (IsBalanced {K = K} {V = V} {E = E})

@@ -10,7 +10,7 @@ use Rattle.moka_hist.specs.Plan as plan
 use Rattle.moka_hist.specs.Next.{Next, goes}
 use Rattle.moka_hist.specs.Looking.{hits, misses, keeps, finds_pair}
 use Rattle.moka_hist.specs.Loading.{after_read, after_told}
-use Rattle.moka_hist.specs.Dropping.{dropped, owed_by, owed_with, running_of}
+use Rattle.moka_hist.specs.Dropping.{dropped, owed_with, running_of}
 use Rattle.moka_hist.specs.Telling.{ended, with_end}
 use Rattle.moka_hist.specs.Step.{Step}
 use Rattle.moka_hist.specs.Run.{IsReached, started, fresh_call}
@@ -630,42 +630,41 @@ module _ {K V E : Type 0} (eq : K → K → Bool) where
       notices_on s i n c live (dropped s n c).world None (record {
         last_same = refl;
         named = unnamed {K = K} {V = V} {E = E} n [] refl;
-        owed_named = named_append s.world.desk.owed _ i.owed_named (gone_named (held_by c.plan) refl (hearing n c.plan) refl);
+        owed_named = named_append s.world.desk.owed _ i.owed_named (gone_named (held_by c.plan));
         noted = i.noted;
         heard = λ x r. inl (
           r,
           omega (
             arith,
-            guards_append x s.world.desk.owed (option_to_list (option_map (owed_with s.world.desk) (owed_by n c))),
+            guards_append x s.world.desk.owed (option_to_list (option_map (owed_with s.world.desk) (held_by c.plan))),
             gone x r (held_by c.plan) refl (hearing n c.plan) refl,
           ),
         );
       }) ((replacing_kept eq).drop s n c live between i.replacing)
     where
-      -- a notice that is kept is the one that was heard
-      was_heard : (y : Option ℕ) (z : ℕ) → running_of s.world.desk y ≡ Some z → y ≡ Some z
-      was_heard None z e = absurd (none_some e)
-      was_heard (Some y) z e = by (is_running s.world.desk y) e
+      -- a notice that goes with a write is that of the write's number
+      its_own : (v : Write) (y : ℕ) → running_of s.world.desk v ≡ Some y → number_of v ≡ y
+      its_own v y e = by (is_running s.world.desk (number_of v)) e
         where
-          by : (b : Bool) → cond b (Some y) None ≡ Some z → Some y ≡ Some z
-          by true e = e
+          by : (b : Bool) → cond b (Some (number_of v)) None ≡ Some y → number_of v ≡ y
+          by true e = some_same e
           by false e = absurd (none_some e)
 
-      gone_named : (o : Option Write) → held_by c.plan ≡ o → (y : Option ℕ) → hearing n c.plan ≡ y →
-          OwedNamed (option_to_list (option_map (owed_with s.world.desk) (option_map (λ v. record { write = v; notice = y }) o)))
-      gone_named None e y f = tt
-      gone_named (Some v) e y f = ((λ z is. i.named n c live z v (hearing_named n z c.plan (f ∙ was_heard y z is)) e), tt)
+      gone_named : (o : Option Write) → OwedNamed (option_to_list (option_map (owed_with s.world.desk) o))
+      gone_named None = tt
+      gone_named (Some v) = (its_own v, tt)
 
       gone : (x : ℕ) → is_running s.world.desk x ≡ true → (o : Option Write) → held_by c.plan ≡ o → (y : Option ℕ) → hearing n c.plan ≡ y →
-          guards x y ≤ guards_owed x (option_to_list (option_map (owed_with s.world.desk) (option_map (λ v. record { write = v; notice = y }) o)))
+          guards x y ≤ guards_owed x (option_to_list (option_map (owed_with s.world.desk) o))
       gone x r o e None f = omega arith
       gone x r None e (Some y) f =
           absurd (false≢true (ap is_some (sym e) ∙ hears_held n y c.plan (i.replacing.known n c live).plan f))
-      gone x r (Some v) e (Some y) f = by (is_running s.world.desk y) refl
+      gone x r (Some v) e (Some y) f =
+          omega (arith, by (is_running s.world.desk (number_of v)) refl, ap (once x) (i.named n c live y v (hearing_named n y c.plan f) e))
         where
-          by : (b : Bool) → is_running s.world.desk y ≡ b → once x y ≤ guards x (cond b (Some y) None) + 0
+          by : (b : Bool) → is_running s.world.desk (number_of v) ≡ b → once x (number_of v) ≤ guards x (cond b (Some (number_of v)) None) + 0
           by true g = omega arith
-          by false g = omega (arith, apart s.world.desk.notices x y r g)
+          by false g = omega (arith, apart s.world.desk.notices x (number_of v) r g)
 
   -- ---- a notice ends
 

@@ -11,7 +11,7 @@ use Rattle.moka_hist.specs.Next.{Next, goes}
 use Rattle.moka_hist.specs.Looking.{hits, misses, keeps, finds_pair}
 use Rattle.moka_hist.specs.Loading.{after_read, after_told, after_abort, retries}
 use Rattle.moka_hist.specs.Step.{Access, On_table, On_desk, Gets, access_of, state_after}
-use Rattle.moka_hist.specs.Dropping.{dropped, owed_by, owed_with}
+use Rattle.moka_hist.specs.Dropping.{dropped, owed_with}
 use Rattle.moka_hist.specs.Run.{Any, started, fresh_call}
 use Rattle.moka_hist.specs.Places.{IsLawful}
 use Rattle.moka_hist.specs.declared.accesses.Got.{Got}
@@ -407,8 +407,8 @@ module _ {K V E : Type 0} (eq : K → K → Bool) where
       record {
         owed = omega (
           arith,
-          owed_append m s.world.desk.owed (option_to_list (option_map (owed_with s.world.desk) (owed_by n c))),
-          gives_up eq s n c m (held_by c.plan),
+          owed_append m s.world.desk.owed (option_to_list (option_map (owed_with s.world.desk) (held_by c.plan))),
+          gives_up eq s m (held_by c.plan),
           posts_held m c.plan (i.balanced.tidy n c live),
           a.owed,
           a.others n (other_number n m there),

@@ -4,13 +4,13 @@ use Rattle.std.proofs.lemmas.Bool.{eqb-true, false≢true}
 use Rattle.std.specs.Option.{option_map, option_to_list}
 use Rattle.moka_hist.specs.Finite.{put_at, times}
 use Rattle.moka_hist.specs.State.{State, Stay, World, Call, DeskPart}
-use Rattle.moka_hist.specs.Plan.{Item, Aim, held_by, hearing, plan_of}
+use Rattle.moka_hist.specs.Plan.{Item, Aim, held_by, plan_of}
 use Rattle.moka_hist.specs.Plan as plan
 use Rattle.moka_hist.specs.Next.{Next, goes}
 use Rattle.moka_hist.specs.Looking.{hits, misses, keeps, finds_pair}
 use Rattle.moka_hist.specs.Loading.{after_read, after_told}
 use Rattle.moka_hist.specs.Notices.{OpensNotice}
-use Rattle.moka_hist.specs.Dropping.{dropped, owed_by, owed_with}
+use Rattle.moka_hist.specs.Dropping.{dropped, owed_with}
 use Rattle.moka_hist.specs.Step.{Step, state_after}
 use Rattle.moka_hist.specs.Run.{IsReached, started, fresh_call}
 use Rattle.moka_hist.specs.Visits.{cause_of, number_of, old_of}
@@ -780,7 +780,7 @@ module _ {K V E : Type 0} (eq : K → K → Bool) where
           by (suc k) e = absurd (between (i.mid n c live (omega (arith, e))))
 
       gives_up : (x : ℕ) (o : Option Write) →
-          swaps_owed x (option_to_list (option_map (owed_with s.world.desk) (option_map (λ v. record { write = v; notice = hearing n c.plan }) o))) ≡
+          swaps_owed x (option_to_list (option_map (owed_with s.world.desk) o)) ≡
           swaps x (option_to_list o)
       gives_up x None = refl
       gives_up x (Some v) = refl
@@ -790,7 +790,7 @@ module _ {K V E : Type 0} (eq : K → K → Bool) where
         arith,
         swap_held x c.plan (i.balanced.tidy n c live),
         gives_up x (held_by c.plan),
-        swaps_owed_append x s.world.desk.owed (option_to_list (option_map (owed_with s.world.desk) (owed_by n c))),
+        swaps_owed_append x s.world.desk.owed (option_to_list (option_map (owed_with s.world.desk) (held_by c.plan))),
       )
 
   -- a notice ends, and is there still

@@ -2,16 +2,13 @@
 use Rattle.std.proofs.Common.{◌≡◌, ℕ, Bool, Option, Some, None, refl, sym, subst}
 use Rattle.std.specs.Cmp.{IsEquivalence}
 use Rattle.moka_hist.specs.State.{State, World, Call}
-use Rattle.std.specs.Option.{option_map}
-use Rattle.moka_hist.specs.Plan.{held_by, hearing}
-use Rattle.moka_hist.specs.Dropping.{owed_by}
+use Rattle.moka_hist.specs.Plan.{held_by}
 use Rattle.moka_hist.specs.Conditions.{MayLeave}
 use Rattle.moka_hist.specs.SoundDesk.{SoundDesk}
 use Rattle.moka_hist.specs.Step.{Access, On_table, On_desk, Gets, May, access_of}
 use Rattle.moka_hist.specs.declared.accesses.Got.{Got}
 use Rattle.moka_hist.specs.declared.accesses.Got.TheVariants as got
 use Rattle.moka_hist.specs.declared.tables.TableTurn.TheVariants as table
-use Rattle.moka_hist.specs.declared.writes.Owed.{Owed}
 use Rattle.moka_hist.specs.declared.writes.Write.{Write}
 use Rattle.moka_laws.specs.Sound.{ReachedIsSound}
 use Rattle.moka_laws.proofs.Kept.{IsInvariant, in_reached}
@@ -37,7 +34,7 @@ module _ {K V E : Type 0} (eq : K → K → Bool) (laws : IsEquivalence eq) wher
 
   -- a live call leaves no write but one that it holds
   may_leave : (s : State K V E) (n : ℕ) (c : Call K V E) → IsWell eq s → s.calls n ≡ Some c → (o : Option Write) → held_by c.plan ≡ o →
-      MayLeave s.world.desk n (option_map (λ (v : Owed). v.write) (option_map (λ v. record { write = v; notice = hearing n c.plan }) o))
+      MayLeave s.world.desk n o
   may_leave s n c well live None e = none_left eq s well.holding n c live e
   may_leave s n c well live (Some write) e = known_held eq s well.holding n c write live e
 
@@ -56,7 +53,7 @@ module _ {K V E : Type 0} (eq : K → K → Bool) (laws : IsEquivalence eq) wher
         record { well = (well_kept eq).hear s n off running i.well; sound = heard_sound eq s.world.desk n off i.sound };
     drop = λ s n c live between i. record {
       well = (well_kept eq).drop s n c live between i.well;
-      sound = left_sound eq s.world.desk n (owed_by n c) i.sound (may_leave s n c i.well live (held_by c.plan) refl);
+      sound = left_sound eq s.world.desk n (held_by c.plan) i.sound (may_leave s n c i.well live (held_by c.plan) refl);
     };
   }
 

@@ -371,13 +371,13 @@ module _ {K V E : Type 0} where
         (without_call (load_eq eq) w.owners w.owning call (loads_in w h)) (without_call eq w.locks w.locked call (locks_in w h))
     left_sound w call (Some held) h may =
         both (left w call (Some held)) h.one_id
-        (given w (left w call (Some held)) call held.write (w.holding call) refl may h
+        (given w (left w call (Some held)) call held (w.holding call) refl may h
         (λ y. omega (
           arith,
           numbers_stand y (left w call (Some held)),
           numbers_stand y w,
           owed_append y w.owed (owed_with w held ∷ []),
-          times_first y (number_of held.write) [],
+          times_first y (number_of held) [],
         )))
         (without_call (load_eq eq) w.owners w.owning call (loads_in w h)) (without_call eq w.locks w.locked call (locks_in w h))
 

@@ -5,10 +5,10 @@ use Rattle.std.proofs.lemmas.Bool.Decides.{nat_tests}
 use Rattle.std.specs.Option.{option_map_or}
 use Rattle.moka_hist.specs.Finite.{put_at}
 use Rattle.moka_hist.specs.State.{State, World, Call, DeskPart}
-use Rattle.moka_hist.specs.Plan.{Item}
+use Rattle.moka_hist.specs.Plan.{Item, held_by}
 use Rattle.moka_hist.specs.Visits.{claimed_alone, claimed, is_reader_of, is_unlocked_for, locked_by, makes, readers_without, settled_as, settled_with, settled_without, settlement_for}
 use Rattle.moka_hist.specs.Step.{Access, On_table, On_desk, Gets, access_of}
-use Rattle.moka_hist.specs.Dropping.{left, owed_by}
+use Rattle.moka_hist.specs.Dropping.{left}
 use Rattle.moka_hist.specs.declared.accesses.Got.{Got}
 use Rattle.moka_hist.specs.declared.accesses.Got.TheVariants as got
 use Rattle.moka_hist.specs.declared.loads.Load.{Load}
@@ -17,7 +17,7 @@ use Rattle.moka_hist.specs.declared.visits.Settled.{Settled}
 use Rattle.moka_hist.specs.declared.visits.Settled.TheVariants as settled
 use Rattle.moka_hist.specs.declared.visits.Visit.{Visit}
 use Rattle.moka_hist.specs.declared.visits.Visit.TheVariants as visit
-use Rattle.moka_hist.specs.declared.writes.Owed.{Owed}
+use Rattle.moka_hist.specs.declared.writes.Write.{Write}
 use Rattle.moka_laws.specs.Readers.{how_many, ReadersAreCounted, NothingUnreadIsKept}
 use Rattle.moka_laws.proofs.Sums.{sum_to, sum_has, sum_zero, sum_suc}
 use Rattle.moka_laws.proofs.Kept.{IsInvariant, in_reached}
@@ -101,7 +101,7 @@ module _ {K V E : Type 0} where
   visit_awaited eq d _ a = a
 
   -- a call that leaves owns nothing or waits for nobody
-  left_awaited : (d : DeskPart K V E) (call : ℕ) (held : Option Owed) → (is_some (d.owning call) ≡ true → is_some (d.joined call) ≡ false) → Awaited d →
+  left_awaited : (d : DeskPart K V E) (call : ℕ) (held : Option Write) → (is_some (d.owning call) ≡ true → is_some (d.joined call) ≡ false) → Awaited d →
       Awaited (left d call held)
   left_awaited d call held alone a o some = by (ends_awaited d call settled.Aborted (settled_without d call) o some)
     where
@@ -187,7 +187,7 @@ module _ {K V E : Type 0} (eq : K → K → Bool) where
     hear = λ s n off running i. record { well = (well_kept eq).hear s n off running i.well; awaited = i.awaited };
     drop = λ s n c live between i. record {
       well = (well_kept eq).drop s n c live between i.well;
-      awaited = left_awaited s.world.desk n (owed_by n c) (alone_live s n c i.well live) i.awaited;
+      awaited = left_awaited s.world.desk n (held_by c.plan) (alone_live s n c i.well live) i.awaited;
     };
   }
 

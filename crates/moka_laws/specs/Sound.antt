@@ -1,6 +1,5 @@
 -- The desk stays sound.
 use Rattle.std.specs.Prelude.{ℕ, Bool, Option}
-use Rattle.std.specs.Option.{option_map}
 use Rattle.moka_hist.specs.State.{DeskPart, State, fresh_desk, Handed}
 use Rattle.moka_hist.specs.Visits.{decided, makes}
 use Rattle.moka_hist.specs.Conditions.{MayLeave, MayVisit}
@@ -11,7 +10,7 @@ use Rattle.moka_hist.specs.Run.{IsReached}
 use Rattle.moka_hist.specs.declared.rules.Rules.{Rules}
 use Rattle.moka_hist.specs.declared.events.Told.{Told}
 use Rattle.moka_hist.specs.declared.visits.Visit.{Visit}
-use Rattle.moka_hist.specs.declared.writes.Owed.{Owed}
+use Rattle.moka_hist.specs.declared.writes.Write.{Write}
 
 -- a desk where nothing has happened is sound
 abbrev pub FreshIsSound : (K V E : Type 0) → (K → K → Bool) → Type 0
@@ -28,8 +27,7 @@ VisitsKeepSound K V E eq =
 -- so does a call that leaves, with no write but one that it holds
 abbrev pub LeavingKeepsSound : (K V E : Type 0) → (K → K → Bool) → Type 0
 LeavingKeepsSound K V E eq =
-    (w : DeskPart K V E) (call : ℕ) (held : Option Owed) →
-    SoundDesk eq w → MayLeave w call (option_map (λ o. o.write) held) →
+    (w : DeskPart K V E) (call : ℕ) (held : Option Write) → SoundDesk eq w → MayLeave w call held →
     SoundDesk eq (left w call held)
 
 -- so does a write that is decided, an answer that is told, a number that is given out, and a clock

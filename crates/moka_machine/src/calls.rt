@@ -8,7 +8,6 @@ ghost use Rattle.moka_machine.specs.Calls.{HasPlace, AreDue, AreNumbered};
 ghost use Rattle.moka_machine.specs.Machine.{call_in};
 ghost use Rattle.moka_machine.specs.Listed.{AreHeld};
 
-use crate::lists::number_owed;
 use crate::machine::TheCall;
 use moka_hist::Visit;
 use moka_init::Flow;
@@ -154,7 +153,7 @@ fn held_number<K, V, E>(place: &Option<Running<K, V, E>>) -> Option<u64>
     ensures { result ≡ held_in place.now }
 {
     match place {
-        Some(running) => running.flow.held().map(number_owed),
+        Some(running) => running.flow.held().map(|write| write.number()),
         None => None,
     }
 }

@@ -19,8 +19,8 @@ use std::hash::Hash;
 /// The numbers of committed writes, each with the place where it stands.
 pub type PlaceList = Listing<(u64, Place)>;
 
-/// The number of the call that made the owed write.
-pub(crate) fn number_owed(owed: Owed) -> u64
+// The number of the call that made the owed write.
+fn number_owed(owed: Owed) -> u64
     ensures { result ≡ number_of owed.write }
 {
     owed.write.number()

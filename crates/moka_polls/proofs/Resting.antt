@@ -3,9 +3,9 @@ use Rattle.std.specs.Option.{option_map, option_to_list}
 use Rattle.std.proofs.Common.{◌≡◌, ◌==◌, ◌+◌, ◌++◌, nat_lt, ℕ, zero, suc, Bool, true, false, cond, List, [], ◌∷◌, Option, Some, None, MatchBool, MatchOption, refl, sym, ap, ◌∙◌, subst, inl, inr}
 use Rattle.moka_hist.specs.Finite.{put_at}
 use Rattle.moka_hist.specs.State.{State, Call, DeskPart}
-use Rattle.moka_hist.specs.Plan.{Item, get_plan, held_by, hearing, insert_plan, is_disabled, iter_plan, load_plan, look, or_insert_plan, plan_of, seek, under_lock, walk_from, pending_plan}
+use Rattle.moka_hist.specs.Plan.{Item, get_plan, held_by, insert_plan, is_disabled, iter_plan, load_plan, look, or_insert_plan, plan_of, seek, under_lock, walk_from, pending_plan}
 use Rattle.moka_hist.specs.Plan as plan
-use Rattle.moka_hist.specs.Dropping.{dropped, owed_by, owed_with}
+use Rattle.moka_hist.specs.Dropping.{dropped, owed_with}
 use Rattle.moka_hist.specs.Telling.{is_asked, told}
 use Rattle.moka_hist.specs.Run.{Any, Becomes, Drops, Happens, Refuses, fresh_call, last_call, started, with_desk}
 use Rattle.moka_hist.specs.declared.events.Event.{Event}
@@ -23,7 +23,6 @@ use Rattle.moka_hist.specs.declared.replies.Refusal.{Refusal}
 use Rattle.moka_hist.specs.declared.replies.Refusal.TheVariants as refusal
 use Rattle.moka_hist.specs.declared.replies.Reply.{Reply}
 use Rattle.moka_hist.specs.declared.rules.Rules.{Rules}
-use Rattle.moka_hist.specs.declared.writes.Owed.{Owed}
 use Rattle.moka_hist.specs.declared.writes.Write.{Write}
 use Rattle.moka_laws.proofs.Counting.{some_same}
 use Rattle.moka_polls.specs.Calm.{HoldsNothing, IsAtRest, IsCalm, IsWhole, CalmIsQuiet, FreshIsCalm, StaysCalm, RestsWith}
@@ -170,15 +169,11 @@ module _ {K V E : Type 0} (s : State K V E) (calm : IsCalm s) where
   as_dropped n c live = record {
     unheard = calm.unheard;
     free = calm.free;
-    owes = ap (λ o. o ++ option_to_list (option_map (owed_with s.world.desk) (owed_by n c)))
-        calm.owes ∙ ap (λ h. option_to_list (option_map (owed_with s.world.desk) (left_with h)))
+    owes = ap (λ o. o ++ option_to_list (option_map (owed_with s.world.desk) (held_by c.plan)))
+        calm.owes ∙ ap (λ h. option_to_list (option_map (owed_with s.world.desk) h))
         (rests_no_write c.plan (calm.rest n c live).plan);
     rest = others (dropped s n c).calls n None refl (λ d e. absurd (cc));
   }
-    where
-      left_with : Option Write → Option Owed
-      left_with held =
-          option_map (λ write. record { write = write; notice = hearing n c.plan }) held
 
   refused : (new : State K V E) (why : Refusal) (r : Reply K V E) → Refuses s why r new → IsCalm new
   refused new why r h = subst IsCalm (sym h.same) calm

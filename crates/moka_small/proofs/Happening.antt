@@ -2,7 +2,8 @@
 use Rattle.std.proofs.Common.{◌≡◌, ◌<◌, ◌≤◌, ◌+◌, ℕ, ◌==◌, nat_lt, Bool, true, false, cond, ◌&&◌, Option, Some, None, is_some, MatchBool, refl, sym, ap, ◌∙◌, subst, arith}
 use Rattle.std.specs.Option.{option_map, option_and_then, option_map_or}
 use Rattle.std.proofs.lemmas.Bool.{eqb-true, false≢true}
-use Rattle.moka_hist.specs.Dropping.{dropped, left, owed_by}
+use Rattle.moka_hist.specs.Dropping.{dropped, left}
+use Rattle.moka_hist.specs.Plan.{held_by}
 use Rattle.moka_hist.specs.Finite.{put_at}
 use Rattle.moka_hist.specs.State.{Call, State}
 use Rattle.moka_hist.specs.Step.{takes_of}
@@ -209,7 +210,7 @@ module _ {K V E : Type 0} (eq : K → K → Bool) where
       let c : Call K V E = call_at (rules_of m.capacity) stand in
       let is : s.calls n ≡ Some c = seen.views.calls n ∙ ap (option_map (call_at (rules_of m.capacity))) live in
       let becomes = drops s new n r (rules_of m.capacity) stand (rw is at happens) in
-      let gives : PollGives s n reply.Dropped None s.world.table (left s.world.desk n (owed_by n c)) r new = record {
+      let gives : PollGives s n reply.Dropped None s.world.table (left s.world.desk n (held_by c.plan)) r new = record {
         replies = becomes.reply;
         leaves = ap (λ v. v.calls) becomes.after;
         stores = ap (λ v. v.world.table) becomes.after;

@@ -1,7 +1,7 @@
 //! How whole removals read, access by access, and the calls of a disabled cache.
 
 use crate::flows::rows::{fresh, plays, run_all, turn_after};
-use moka_hist::{Answer, Ask, Cause, Owed, Turn, Visit, Write};
+use moka_hist::{Answer, Ask, Cause, Turn, Visit, Write};
 use moka_init::Flow;
 use std::alloc::AllocError;
 
@@ -161,11 +161,7 @@ fn answers_what_it_took(flow: &mut Flow<u32, u32, u32>) -> Result<bool, AllocErr
             stamp moment / stamped / going\n\
             remove / found / going\n",
     )?;
-    let owed = Owed {
-        write: REMOVAL,
-        notice: None,
-    };
-    let holds = flow.held() == Some(owed);
+    let holds = flow.held() == Some(REMOVAL);
     Ok(took && holds && answers_9(flow)?)
 }
 

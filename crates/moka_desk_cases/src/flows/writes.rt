@@ -1,7 +1,7 @@
 //! How whole gets and inserts read, and how owed writes are taken up.
 
 use crate::flows::rows::{fresh, plays, run_all};
-use moka_hist::{Owed, Write};
+use moka_hist::Write;
 use moka_init::Flow;
 use std::alloc::AllocError;
 
@@ -82,11 +82,7 @@ fn tells(flow: &mut Flow<u32, u32, u32>) -> Result<bool, AllocError> {
         number: 7,
         old: Some(2),
     };
-    let owed = Owed {
-        write,
-        notice: Some(7),
-    };
-    Ok(committed && due && opened && !still_due && flow.held() == Some(owed))
+    Ok(committed && due && opened && !still_due && flow.held() == Some(write))
 }
 
 fn tells_and_hears(flow: &mut Flow<u32, u32, u32>) -> Result<bool, AllocError> {

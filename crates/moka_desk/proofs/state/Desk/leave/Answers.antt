@@ -17,13 +17,13 @@ pub leave-requires : goal.leave-requires
 leave-requires g c =
     let w = c.requires.0 in
     let h = c.requires.1 in
-    subst (λ o. IfSome c.still_heard-held.result (λ x. holds_number c.args.call (number_of x.write) o ≡ true)) (sym (h.writes.holding c.args.call))
-    (leaves_its_own (w.holding c.args.call) c.args.call c.still_heard-held.result
-    (subst (MayLeaveWith (w.holding c.args.call) c.args.call) (sym c.still_heard-held.ensures.same) c.requires.2))
+    subst (λ o. IfSome c.owed_as-owed.result (λ x. holds_number c.args.call (number_of x.write) o ≡ true)) (sym (h.writes.holding c.args.call))
+    (leaves_its_own (w.holding c.args.call) c.args.call c.owed_as-owed.result
+    (subst (MayLeaveWith (w.holding c.args.call) c.args.call) (sym c.owed_as-owed.ensures.same) c.requires.2))
 
 pub returns-clause-makes : goal.returns-clause-makes
 returns-clause-makes g c = λ w h may.
-    let kept = subst (MayLeaveWith (w.holding c.args.call) c.args.call) (sym c.still_heard-held.ensures.same) may in
+    let kept = subst (MayLeaveWith (w.holding c.args.call) c.args.call) (sym c.owed_as-owed.ensures.same) may in
     record {
       rules = h.rules;
       clock = h.clock;
@@ -34,7 +34,7 @@ returns-clause-makes g c = λ w h may.
       published = h.published;
       last = h.last;
       writes = subst (λ held. WritesAre c.leave.new.self (record (write_part w) { holding = put_at w.holding c.args.call None; owed = w.owed ++ option_to_list held }))
-          (c.still_heard-held.ensures.notice w h) (c.leave.ensures.makes (write_part w) h.writes kept);
+          (c.owed_as-owed.ensures.notice w h) (c.leave.ensures.makes (write_part w) h.writes kept);
       loads = c.leave-2.ensures w c.args.held h.loads;
       locks = c.free.ensures (lock_part w) h.locks;
       notices = h.notices;
