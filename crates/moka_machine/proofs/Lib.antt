@@ -5,6 +5,7 @@ pub mod OtherCalls
 pub mod Stepping
 pub mod Happening
 pub mod LiveCalls
+pub mod Newest
 pub mod ListedPlaces
 pub mod ListedNotices
 pub mod Needing

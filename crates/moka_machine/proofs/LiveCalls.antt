@@ -12,7 +12,7 @@ use Rattle.moka_init.specs.FlowPlan.{opening}
 use Rattle.moka_machine.specs.Calls.{held_in, due_in, opening_of, AreDue, AreNumbered}
 use Rattle.moka_machine.specs.Machine.{call_in}
 use Rattle.moka_machine.specs.Listed.{held_number, AreHeld}
-use Rattle.moka_machine.specs.declared.calls.Running.{Running}
+use Rattle.moka_machine.specs.declared.call_places.Running.{Running}
 
 module _ {K V E : Type 0} where
   -- the live call of a place

@@ -14,7 +14,7 @@ use Rattle.moka_machine.specs.Calls.{place_at, running_at}
 use Rattle.moka_machine.specs.Machine.{IsOf, IsOut, Without, MachineIs}
 use Rattle.moka_machine.specs.TheTable.{TheCall, TheTable, the_table}
 use Rattle.moka_machine.specs.declared.calls.Calls.{Calls}
-use Rattle.moka_machine.specs.declared.calls.Running.{Running}
+use Rattle.moka_machine.specs.declared.call_places.Running.{Running}
 use Rattle.moka_machine.specs.declared.machine.Machine.{Machine}
 use Rattle.moka_machine.proofs.Places.{runs_at, set_calls, set_each, set_used}
 

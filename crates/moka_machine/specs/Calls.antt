@@ -1,5 +1,5 @@
 -- The live calls of a machine, by number.
-use Rattle.std.specs.Prelude.{◌≡◌, ℕ, List, Option, Some, None, IsSome, nat_eq}
+use Rattle.std.specs.Prelude.{◌≡◌, ℕ, ◌==◌, Bool, cond, List, Option, Some, None, IsSome, nat_eq}
 use Rattle.std.specs.List.{filter_map}
 use Rattle.std.specs.Option.{option_and_then, option_map}
 use Rattle.std.specs.HashMap.{get}
@@ -10,12 +10,18 @@ use Rattle.moka_hist.specs.declared.visits.Visit.{Visit}
 use Rattle.moka_hist.specs.Plan.{held_by}
 use Rattle.moka_hist.specs.Visits.{number_of}
 use Rattle.moka_machine.specs.declared.calls.Calls.{Calls}
-use Rattle.moka_machine.specs.declared.calls.Running.{Running}
+use Rattle.moka_machine.specs.declared.call_places.Running.{Running}
 
 module _ {K V E : Type 0} where
   -- what the number has: no place, an empty one, or one in which a call runs
   abbrev pub place_at : Calls K V E → ℕ → Option (Option (Running K V E))
-  place_at calls n = get nat_eq calls.places n
+  place_at calls n = cond (calls.last == n) calls.newest (get nat_eq calls.places n)
+
+  -- what was there, or this place, if it is one and meant for the number
+  abbrev pub put_some : Option (Option (Running K V E)) → Bool → Option (Option (Running K V E))
+      → Option (Option (Running K V E))
+  put_some None meant before = before
+  put_some (Some place) meant before = cond meant (Some place) before
 
   -- the call that runs there
   abbrev pub runs_in : Option (Option (Running K V E)) → Option (Running K V E)

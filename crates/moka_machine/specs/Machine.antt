@@ -21,7 +21,7 @@ use Rattle.moka_init.specs.Grounds.{HasBegun, IsOn, MayWant, access_at, NeedsMem
 use Rattle.moka_layers.specs.Layers.{BegunIs, GroundIs, WorldIs, account_of, operation_in}
 use Rattle.moka_machine.specs.Calls.{running_at, place_at, IsUsed}
 use Rattle.moka_machine.specs.TheTable.{TheTable, the_table}
-use Rattle.moka_machine.specs.declared.calls.Running.{Running}
+use Rattle.moka_machine.specs.declared.call_places.Running.{Running}
 use Rattle.moka_machine.specs.declared.machine.Machine.{Machine}
 
 module _ {K V E : Type 0} where

@@ -1,60 +1,74 @@
 //! The live calls, by number.
-ghost use Rattle.std.specs.Prelude.{◌≡◌, ℕ, ◌<◌, Some, None, IfOk, OnOk, OnSome};
+ghost use Rattle.std.specs.Prelude.{◌≡◌, ℕ, ◌<◌, ◌≤◌, true, is_some, nat_eq, None, Some, IfOk, OnOk, OnSome};
 ghost use Rattle.std.specs.Option.{option_map};
-ghost use Rattle.std.specs.HashMap.{spare};
+ghost use Rattle.std.specs.HashMap.{get, spare};
 ghost use Rattle.moka_hist.specs.Finite.{put_at};
-ghost use Rattle.moka_machine.specs.Calls.{place_at, emptied, running_at, held_in, due_in};
-ghost use Rattle.moka_machine.specs.Calls.{HasPlace, AreDue, AreNumbered};
-ghost use Rattle.moka_machine.specs.Machine.{call_in};
-ghost use Rattle.moka_machine.specs.Listed.{AreHeld};
 
-use crate::machine::TheCall;
+use crate::call_places::{
+    Running, due_at, held_number, newest_due, newest_held, put, put_back_among, put_some,
+    take_among, take_newest,
+};
 use moka_hist::Visit;
 use moka_init::Flow;
 use moka_values::Exact;
 use std::alloc::{AllocError, Global};
 use std::collections::HashMap;
 
-/// A call that runs: its flow, which stays where it is from step to step, and its table operation
-/// where one was begun.
-#[derive(Drop)]
-pub(crate) struct Running<K, V, E> {
-    pub(crate) flow: Box<Flow<K, V, E>>,
-    pub(crate) begun: Option<TheCall<K, V>>,
-}
-
 /// The live calls, by number. A call that is being stepped is taken out, and its place stays until
-/// it is put back or forgotten.
+/// it is put back or forgotten. The place of the greatest number that was added stands apart: most
+/// calls end before the next one starts, and are never hashed. The box of a flow that has answered
+/// is kept for the next call.
 #[derive(Drop)]
 pub(crate) struct Calls<K, V, E> {
+    last: u64,
+    newest: Option<Option<Running<K, V, E>>>,
     places: HashMap<u64, Option<Running<K, V, E>>>,
+    spent: Option<Box<Flow<K, V, E>>>,
     alloc: Global,
+    ghost before: { (n : ℕ) → is_some (get nat_eq places n) ≡ true → n < last },
 }
 
 impl<K: Drop, V: Drop, E: Drop> Calls<K, V, E> {
+    ghost use Rattle.moka_machine.specs.Calls.{place_at, emptied, running_at};
+    ghost use Rattle.moka_machine.specs.Calls.{HasPlace, AreDue, AreNumbered};
+    ghost use Rattle.moka_machine.specs.Machine.{call_in};
+    ghost use Rattle.moka_machine.specs.Listed.{AreHeld};
+
     /// No calls. It takes no memory.
     pub(crate) fn new(alloc: Global) -> Self
         ensures { (n : ℕ) → place_at result n ≡ None }
     {
         Calls {
+            last: 0,
+            newest: None,
             places: HashMap::new(alloc),
+            spent: None,
             alloc,
         }
     }
 
-    /// Puts the flow of a call where it stays while the call runs.
-    pub(crate) fn boxed(&self, flow: Flow<K, V, E>) -> Result<Box<Flow<K, V, E>>, AllocError>
+    /// Puts the flow of a call where it stays while the call runs: in the box of one that has
+    /// answered, if there is one.
+    pub(crate) fn boxed(
+        &self,
+        flow: Flow<K, V, E>,
+        spent: Option<Box<Flow<K, V, E>>>,
+    ) -> Result<Box<Flow<K, V, E>>, AllocError>
         ensures { IfOk result (λ boxed. boxed.value ≡ flow) }
     {
-        Ok(Box::new(self.alloc, flow)?)
+        match spent {
+            Some(spent) => Ok(put_in(spent, flow)),
+            None => Ok(Box::new(self.alloc, flow)?),
+        }
     }
 
-    /// Makes room for one more call.
-    pub(crate) fn reserve(&mut self) -> Result<(), AllocError>
+    /// Makes room for one more call, and gives the box of a flow that has answered, if there is one.
+    pub(crate) fn reserve(&mut self) -> Result<Option<Box<Flow<K, V, E>>>, AllocError>
         ensures room { OnOk result (0 < spare self.new.places) }
         ensures same { (n : ℕ) → place_at self.new n ≡ place_at self.old n }
     {
-        self.places.reserve(1)
+        self.places.reserve(1)?;
+        Ok(self.spent.take())
     }
 
     /// A call starts to run. There is room, so it takes no memory.
@@ -63,22 +77,40 @@ impl<K: Drop, V: Drop, E: Drop> Calls<K, V, E> {
         ensures { (n : ℕ) → place_at self.new n
             ≡ put_at (place_at self.old) call (Some (Some running)) n }
     {
-        match self.places.insert(call, Some(running)) {
-            Ok(before) => drop(before),
-            Err(_) => unreachable!(),
+        if call < self.last {
+            put(&mut self.places, call, Some(running));
+            return;
+        }
+        self.go_on_to(call);
+        self.newest = Some(Some(running));
+    }
+
+    // Makes this the greatest number: the call of the one before goes among the others, if it still
+    // has a place.
+    fn go_on_to(&mut self, call: u64)
+        requires room { 0 < spare self.old.places }
+        requires later { self.old.last ≤ call }
+        ensures last { self.new.last ≡ call }
+        ensures same { (n : ℕ) → place_at self.new n ≡ place_at self.old n }
+    {
+        if self.last < call {
+            put_some(&mut self.places, self.last, self.newest.take());
+            self.last = call;
         }
     }
 
     /// Takes a running call out, and leaves its place.
+    #[inline(always)]
     pub(crate) fn take(&mut self, call: u64) -> Option<Running<K, V, E>>
         ensures taken { result ≡ running_at self.old call }
         ensures rest { (n : ℕ) → place_at self.new n
             ≡ put_at (place_at self.old) call (emptied (place_at self.old call)) n }
         ensures place { OnSome result (HasPlace self.new call) }
     {
-        match self.places.get_mut(&call) {
-            Some(place) => place.take(),
-            None => None,
+        if call == self.last {
+            take_newest(&mut self.newest)
+        } else {
+            take_among(&mut self.places, call)
         }
     }
 
@@ -89,9 +121,10 @@ impl<K: Drop, V: Drop, E: Drop> Calls<K, V, E> {
         ensures { (n : ℕ) → place_at self.new n
             ≡ put_at (place_at self.old) call (Some (Some running)) n }
     {
-        match self.places.get_mut(&call) {
-            Some(place) => drop(place.replace(running)),
-            None => unreachable!(),
+        if call == self.last {
+            self.newest = Some(Some(running));
+        } else {
+            put_back_among(&mut self.places, call, running);
         }
     }
 
@@ -100,7 +133,20 @@ impl<K: Drop, V: Drop, E: Drop> Calls<K, V, E> {
     pub(crate) fn forget(&mut self, call: u64)
         ensures { (n : ℕ) → place_at self.new n ≡ put_at (place_at self.old) call None n }
     {
-        drop(self.places.remove(&call));
+        if call == self.last {
+            self.newest = None;
+        } else {
+            drop(self.places.remove(&call));
+        }
+    }
+
+    /// Gives the place of a call up whose flow has answered, and keeps its box.
+    #[inline(always)]
+    pub(crate) fn end(&mut self, call: u64, flow: Box<Flow<K, V, E>>)
+        ensures { (n : ℕ) → place_at self.new n ≡ put_at (place_at self.old) call None n }
+    {
+        self.forget(call);
+        self.spent = Some(flow);
     }
 
     /// Lists the numbers of the writes that running calls hold.
@@ -108,7 +154,7 @@ impl<K: Drop, V: Drop, E: Drop> Calls<K, V, E> {
         ensures { IfOk result (λ numbers. AreHeld numbers.items
             (λ n. option_map call_in (running_at self.now n))) }
     {
-        let mut numbers = Vec::new(alloc);
+        let mut numbers = newest_held(alloc, &self.newest)?;
         for place in self.places.values() {
             if let Some(number) = held_number(place) {
                 numbers.push(number)?;
@@ -126,7 +172,7 @@ impl<K: Drop, V: Drop, E: Drop> Calls<K, V, E> {
         ensures { IfOk result (λ visits. AreNumbered (running_at self.now)
             → AreDue visits.items (λ n. option_map call_in (running_at self.now n))) }
     {
-        let mut visits = Vec::new(alloc);
+        let mut visits = newest_due(alloc, &self.newest)?;
         for place in self.places.values() {
             if let Some(visit) = due_at(place)? {
                 visits.push(visit)?;
@@ -136,24 +182,13 @@ impl<K: Drop, V: Drop, E: Drop> Calls<K, V, E> {
     }
 }
 
-/// The visit that opens the notice of the call of this place, where that is due.
-fn due_at<K: Exact, V: Exact, E: Exact>(
-    place: &Option<Running<K, V, E>>,
-) -> Result<Option<Visit<K, V, E>>, AllocError>
-    ensures { IfOk result (λ due. due ≡ due_in place.now) }
+// Puts the flow in the box, in the place of the one that is there.
+fn put_in<K: Drop, V: Drop, E: Drop>(
+    mut boxed: Box<Flow<K, V, E>>,
+    flow: Flow<K, V, E>,
+) -> Box<Flow<K, V, E>>
+    ensures { result.value ≡ flow }
 {
-    match place {
-        Some(running) => running.flow.due(),
-        None => Ok(None),
-    }
-}
-
-/// The number of the write that the call of this place holds, where one runs.
-fn held_number<K, V, E>(place: &Option<Running<K, V, E>>) -> Option<u64>
-    ensures { result ≡ held_in place.now }
-{
-    match place {
-        Some(running) => running.flow.held().map(|write| write.number()),
-        None => None,
-    }
+    *boxed = flow;
+    boxed
 }

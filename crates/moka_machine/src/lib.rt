@@ -3,6 +3,7 @@
 //! `Machine::serve` carries one event out; `run` of `moka_run` carries a list of them out.
 #![tactic(auto)]
 
+mod call_places;
 mod calls;
 mod lists;
 mod machine;

@@ -3,7 +3,7 @@ ghost use Rattle.std.specs.Prelude.{◌≡◌, ◌<◌, ℕ, Some, None, IsSome,
 ghost use Rattle.std.specs.HashMap.{spare};
 ghost use Rattle.moka_machine.specs.WantOfMemory.{ToldNeedsMemory};
 
-use crate::calls::Running;
+use crate::call_places::Running;
 use crate::machine::Machine;
 use moka_hist::{Mode, Refusal, Reply, Start, Tests, Told};
 use moka_init::{Flow, Unfinished};
@@ -44,12 +44,12 @@ impl<K: Eq + Hash + Exact, V: Exact, E: Exact, T: Tests<K, V> + Drop> Machine<K,
         ensures err { OnErr result (KeepsState K.eq T.Tests self.old self.new) }
     {
         let start = copy_of(start)?;
-        self.make_room()?;
-        self.enter(start)
+        let spent = self.make_room()?;
+        self.enter(start, spent)
     }
 
-    // Makes room for one more call.
-    fn make_room(&mut self) -> Result<(), AllocError>
+    // Makes room for one more call, and gives the box of a flow that has answered, if there is one.
+    fn make_room(&mut self) -> Result<Option<Box<Flow<K, V, E>>>, AllocError>
         ensures room { OnOk result (0 < spare self.new.calls.places) }
         ensures same { KeepsState K.eq T.Tests self.old self.new }
     {
@@ -57,7 +57,11 @@ impl<K: Eq + Hash + Exact, V: Exact, E: Exact, T: Tests<K, V> + Drop> Machine<K,
     }
 
     // Starts a call, for which there is room. Its flow is made before its number is given out.
-    fn enter(&mut self, start: Start<K, V>) -> Result<Reply<K, V, E>, AllocError>
+    fn enter(
+        &mut self,
+        start: Start<K, V>,
+        spent: Option<Box<Flow<K, V, E>>>,
+    ) -> Result<Reply<K, V, E>, AllocError>
         requires { 0 < spare self.old.calls.places }
         ensures serves { IfOk result (λ r.
             ServesEvent K.eq T.Tests self.old (Event.Start start) r self.new) }
@@ -68,7 +72,7 @@ impl<K: Eq + Hash + Exact, V: Exact, E: Exact, T: Tests<K, V> + Drop> Machine<K,
         let next = last.saturating_add(1);
         let rules = self.layers.desk.rules();
         let flow = Flow::new(start, next, rules, self.layers.table.parts());
-        let boxed = self.calls.boxed(flow)?;
+        let boxed = self.calls.boxed(flow, spent)?;
         match self.layers.desk.enter() {
             None => Ok(Reply::Refused(Refusal::CallsSpent)),
             Some(call) => {

@@ -2,7 +2,7 @@
 ghost use Rattle.std.specs.Prelude.{◌≡◌, ◌<◌, ℕ, Option, Some, None, IfOk, IfErr, IfSome, IfNone, OnErr, OnSome};
 ghost use Rattle.moka_hist.specs.Finite.{put_at};
 
-use crate::calls::Running;
+use crate::call_places::Running;
 use crate::machine::Machine;
 use moka_hist::{Answer, Refusal, Reply, Tests, Turn};
 use moka_init::{Flow, Unfinished, poll, step};
@@ -159,8 +159,8 @@ impl<K: Eq + Hash + Exact, V: Exact, E: Exact, T: Tests<K, V> + Drop> Machine<K,
             → MachineIs K.eq T.Tests self.new
             (record { world = w; calls = put_at others call None }) }
     {
-        drop(flow);
-        self.end(call);
+        self.layers.begun = None;
+        self.calls.end(call, flow);
         Reply::Answer(answer)
     }
 

@@ -9,7 +9,7 @@ use Rattle.moka_init.specs.declared.flow.Flow.{Flow}
 use Rattle.moka_init.specs.FlowPlan.{IsLive, call_of}
 use Rattle.moka_init.specs.Grounds.{HasBegun, wanted, access_at}
 use Rattle.moka_init.proofs.Begun.{not_begun}
-use Rattle.moka_machine.specs.declared.calls.Running.{Running}
+use Rattle.moka_machine.specs.declared.call_places.Running.{Running}
 use Rattle.moka_machine.specs.Calls.{place_at, running_at}
 use Rattle.moka_machine.specs.Machine.{MachineIs, IsOf}
 use Rattle.moka_machine.proofs.Happening.{match_false, given_out}

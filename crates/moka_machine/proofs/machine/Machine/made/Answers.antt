@@ -8,7 +8,7 @@ use Rattle.moka_machine.specs.Calls.{IsUsed, runs_in}
 use Rattle.moka_machine.specs.Handed.{handed_with}
 use Rattle.moka_machine.specs.Machine.{call_in}
 use Rattle.moka_machine.specs.TheTable.{the_division}
-use Rattle.moka_machine.specs.declared.calls.Running.{Running}
+use Rattle.moka_machine.specs.declared.call_places.Running.{Running}
 use Rattle.moka_machine.proofs.machine.Machine.made.Goals as goal
 
 pub returns-clause-fresh : goal.returns-clause-fresh

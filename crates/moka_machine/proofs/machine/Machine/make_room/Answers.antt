@@ -3,7 +3,7 @@ use Rattle.std.proofs.Common.{Option, sym, ap, subst, ◌∙◌}
 use Rattle.std.specs.Option.{option_map}
 use Rattle.moka_machine.specs.Calls.{IsUsed, runs_in}
 use Rattle.moka_machine.specs.Machine.{call_in}
-use Rattle.moka_machine.specs.declared.calls.Running.{Running}
+use Rattle.moka_machine.specs.declared.call_places.Running.{Running}
 use Rattle.moka_machine.proofs.machine.Machine.make_room.Goals as goal
 
 pub returns-clause-same : goal.returns-clause-same

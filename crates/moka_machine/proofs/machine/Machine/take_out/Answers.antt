@@ -5,7 +5,7 @@ use Rattle.moka_hist.specs.Finite.{put_at}
 use Rattle.moka_init.specs.declared.flow.Flow.{Flow}
 use Rattle.moka_machine.specs.declared.machine.Machine.{Machine}
 use Rattle.moka_machine.specs.Calls.{IsUsed, emptied, place_at, running_at, runs_in}
-use Rattle.moka_machine.specs.declared.calls.Running.{Running}
+use Rattle.moka_machine.specs.declared.call_places.Running.{Running}
 use Rattle.moka_machine.specs.Machine.{TakenOut, IsOut, IsOf, call_in}
 use Rattle.moka_machine.proofs.Places.{none_runs, other_at, runs_at, set_at, set_each, untaken}
 use Rattle.moka_machine.proofs.machine.Machine.take_out.Goals as goal
