@@ -8,15 +8,15 @@ ghost use Rattle.std.specs.Option.{option_map_or};
 ghost use Rattle.moka_desk.specs.Held.{held_by, held_count, holding_room, decided_holding, others_of};
 ghost use Rattle.moka_desk.specs.Held.{pends_up_to, some_pends_by};
 
-use crate::maps::at;
+use crate::maps::{at, take_at};
 use moka_hist::Holding;
 use moka_room::{map_room, vec_room};
 use std::alloc::{AllocError, Global};
 use std::collections::HashMap;
 
 /// The place of a write of its own that a call holds, or the write that it took up. A call takes a
-/// write up without memory: where the map has none for it, it stands among the rest, which has room
-/// for each.
+/// write up without memory: it stands among the rest, which has room for each, where nothing else
+/// does, or the map has no place for it.
 #[derive(Drop)]
 pub(crate) struct Holdings {
     pub(crate) by_call: HashMap<u64, Holding>,
@@ -58,9 +58,40 @@ impl Holdings {
         vec_room::reserve(&mut self.rest, room)
     }
 
-    /// The call, which holds nothing, holds this from then on. There is room for it.
+    /// The call, which holds nothing, holds this from then on. There is room for it. Where nothing
+    /// stands among the rest it stands there, and is not hashed: mostly one call writes at a time.
     #[inline(always)]
     pub(crate) fn put(&mut self, call: u64, holding: Holding)
+        requires room { held_count self.old < holding_room self.old }
+        requires free { held_by self.old call ≡ None }
+        ensures holds { (n : ℕ) →
+            held_by self.new n ≡ cond (call == n) (Some holding) (held_by self.old n) }
+        ensures count { held_count self.new ≤ held_count self.old + 1 }
+        ensures room { holding_room self.new ≡ holding_room self.old }
+    {
+        if self.rest.is_empty() {
+            self.put_beside(call, holding);
+        } else {
+            self.put_in_map(call, holding);
+        }
+    }
+
+    // The call, which holds nothing, holds this from then on, beside the map. There is room for it.
+    #[inline(always)]
+    fn put_beside(&mut self, call: u64, holding: Holding)
+        requires room { held_count self.old < holding_room self.old }
+        requires free { held_by self.old call ≡ None }
+        ensures holds { (n : ℕ) →
+            held_by self.new n ≡ cond (call == n) (Some holding) (held_by self.old n) }
+        ensures count { held_count self.new ≤ held_count self.old + 1 }
+        ensures room { holding_room self.new ≡ holding_room self.old }
+    {
+        self.rest.push_reserved((call, holding));
+    }
+
+    // The call, which holds nothing, holds this from then on, in the map where that has a place.
+    #[inline(never)]
+    fn put_in_map(&mut self, call: u64, holding: Holding)
         requires room { held_count self.old < holding_room self.old }
         requires free { held_by self.old call ≡ None }
         ensures holds { (n : ℕ) →
@@ -96,7 +127,7 @@ impl Holdings {
             ≤ held_count self.old }
         ensures room { holding_room self.new ≡ holding_room self.old }
     {
-        let _ = self.by_call.remove(&call);
+        take_at(&mut self.by_call, call);
         remove_from(&mut self.rest, call);
     }
 

@@ -115,6 +115,7 @@ impl Lines {
 }
 
 /// Hands out those on the list, if there is one.
+#[inline(always)]
 fn hand_all(alloc: Global, list: Option<WaitList>) -> CallList
     ensures { result ≡ calls_in list }
 {
@@ -125,6 +126,7 @@ fn hand_all(alloc: Global, list: Option<WaitList>) -> CallList
 }
 
 /// Hands out those on the first list, and then those on the second, where there are such lists.
+#[inline(always)]
 pub(crate) fn hand_both(
     alloc: Global,
     first: Option<WaitList>,
@@ -139,6 +141,7 @@ pub(crate) fn hand_both(
 }
 
 // Hands out those on the first list, and then those on the second, if there is one.
+#[inline(never)]
 fn hand_with(mut first: WaitList, second: Option<WaitList>) -> CallList
     ensures { result ≡ first.calls ++ calls_in second }
 {

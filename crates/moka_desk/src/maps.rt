@@ -67,6 +67,20 @@ pub(crate) fn at<T>(map: &HashMap<u64, T>, number: u64) -> Option<&T>
     map.get(&number)
 }
 
+/// Takes out the value at the number, if it has one. Nothing is hashed where the map is empty.
+#[inline(always)]
+pub(crate) fn take_at<T: Drop>(map: &mut HashMap<u64, T>, number: u64)
+    ensures updates { (n : ℕ) →
+        get nat_eq map.new n ≡ cond (number == n) None (get nat_eq map.old n) }
+    ensures len { hash_map_len map.new + (if is_some (get nat_eq map.old number) then 1 else 0)
+        ≡ hash_map_len map.old }
+{
+    if map.is_empty() {
+        return;
+    }
+    drop(map.remove(&number));
+}
+
 /// Takes the number out of the set, and tells whether it was there. Nothing is hashed where the set
 /// is empty.
 #[inline(always)]

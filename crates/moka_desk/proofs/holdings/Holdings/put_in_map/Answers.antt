@@ -5,7 +5,7 @@ use Rattle.std.specs.HashMap.{get}
 use Rattle.moka_desk.specs.Notices.{either}
 use Rattle.moka_desk.specs.Held.{held_by}
 use Rattle.moka_desk.proofs.WhoHolds.{flip, free_at, lookup_last, put_in_map, put_in_rest}
-use Rattle.moka_desk.proofs.holdings.Holdings.put.Goals as goal
+use Rattle.moka_desk.proofs.holdings.Holdings.put_in_map.Goals as goal
 
 pub returns-in-Ok-clause-holds : goal.returns-in-Ok-clause-holds
 returns-in-Ok-clause-holds c = λ n.
