@@ -7,6 +7,7 @@ pub mod WhoHolds
 pub mod Owing
 pub mod Numbers
 pub mod Keys
+pub mod FirstLock
 pub mod Noticed
 pub mod Allowed
 pub mod Parts

@@ -141,7 +141,7 @@ impl<K: Eq + Hash + Exact, V: Drop, E: Drop, S: BuildHasher + Drop> Desk<K, V, E
         ensures { (w : DeskPart K V E) → StandsFor K.eq self.now w
             → IsTrue result ↔ IsNone (w.locked call) }
     {
-        !self.locks.locked.contains_key(&call)
+        !self.locks.holds_one(call)
     }
 
     // The call holds a lock, and took no write up where nothing was written.

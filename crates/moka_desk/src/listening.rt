@@ -2,7 +2,6 @@
 
 ghost use Rattle.std.specs.Prelude.{◌≡◌, true, Some, IfOk, OnOk, OnErr};
 ghost use Rattle.std.specs.Bool.{OnTrue, OnFalse};
-ghost use Rattle.std.specs.HashMap.{get};
 
 use crate::Desk;
 use crate::notices::Heard;
@@ -22,6 +21,7 @@ impl<K: Eq + Hash + Exact, V: Drop, E: Drop, S: BuildHasher + Drop> Desk<K, V, E
     ghost use Rattle.moka_desk.specs.WakeList.{LocksWake, NobodyWakes, NoticesWake};
     ghost use Rattle.moka_desk.specs.Woken.{all_but, and_calls};
     ghost use Rattle.moka_desk.specs.History.{KeepsAsBefore};
+    ghost use Rattle.moka_desk.specs.Locks.{holder_of};
     ghost use Rattle.moka_desk.specs.StandsFor.{StandsFor, Can, Finds, Makes, Stays};
     ghost use Rattle.moka_desk.specs.ListedMiss.{MissAfter, MissWith};
 
@@ -39,7 +39,7 @@ impl<K: Eq + Hash + Exact, V: Drop, E: Drop, S: BuildHasher + Drop> Desk<K, V, E
         ensures locked { IfOk result (λ locked. OnTrue locked
             (LocksMove self.old (leaves call) self.new)) }
         ensures waits { IfOk result (λ locked. OnFalse locked (LocksMove self.old
-            (waits_at (get K.eq self.old.locks.holders key.now) call) self.new)) }
+            (waits_at (holder_of K.eq self.old.locks key.now) call) self.new)) }
         ensures unlisted { OnErr result (LocksMove self.old stays self.new) }
         ensures back { OnOk result (LocksWake self.old (all_but call) self.new) }
         ensures still { OnErr result (NobodyWakes self.old self.new) }
