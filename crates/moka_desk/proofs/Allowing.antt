@@ -41,6 +41,7 @@ module _ {K V E S H : Type 0} {same : PartialEq.Ghosts K} {hash : Hash.Ghosts K}
       locks = h.locks;
       notices = h.notices;
       asks = h.asks;
+      listed = h.listed;
     };
     sound = λ s. record {
       once = sound_once desk.writes (record (write_part w) { applied = f.others }) f.stand;
@@ -82,6 +83,7 @@ module _ {K V E S H : Type 0} {same : PartialEq.Ghosts K} {hash : Hash.Ghosts K}
         off = h.notices.off;
       };
       asks = h.asks;
+      listed = h.listed;
     };
     sound = λ s. record {
       once = s.once;

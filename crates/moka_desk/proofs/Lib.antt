@@ -14,6 +14,7 @@ pub mod Parts
 pub mod Listed
 pub mod Misses
 pub mod Woken
+pub mod Waiters
 pub mod Needing
 pub mod Tested
 pub mod Histories

@@ -2,6 +2,7 @@
 use Rattle.std.proofs.Common.{◌≡◌, ℕ, ◌==◌, Bool, true, false, cond, ◌||◌, List, [], ◌∷◌, ◌++◌, length, Option, Some, None, nat_eq, refl, sym, ap, ◌∙◌, arith}
 use Rattle.std.specs.HashMap.{HashMap, get, hash_map_len}
 use Rattle.std.specs.Map.{lookup}
+use Rattle.std.specs.Option.{option_map_or}
 use Rattle.std.proofs.lemmas.Bool.{eqb-true, eqb-false}
 use Rattle.moka_sync.specs.Waiting.{waits, without}
 use Rattle.moka_desk.specs.Lines.{is_at, with_call}
@@ -77,6 +78,17 @@ module _ (line : ℕ → List ℕ) (place : ℕ → Option ℕ) (placed : (numbe
   -- the lines once a call is listed
   abbrev pub listed : ℕ → ℕ → ℕ → List ℕ
   listed number call n = cond (number == n) (with_call call (line n)) (without call (line n))
+
+  -- one that is listed already stays so, and on no other list
+  pub listed_already : (number call : ℕ) → waits call (line number) ≡ true → (n : ℕ) → line n ≡ listed number call n
+  listed_already number call is n = by (number == n) refl where
+    away : (number == n) ≡ false → (w : Bool) → waits call (line n) ≡ w → w ≡ false
+    away e false f = refl
+    away e true f = absurd (eqb-false number n e (ap (λ o. option_map_or (λ m. m) o number) (sym (placed number call is) ∙ placed n call f)))
+
+    by : (b : Bool) → (number == n) ≡ b → line n ≡ cond b (with_call call (line n)) (without call (line n))
+    by true e = sym (ap (λ b. cond b (line n) (line n ++ call ∷ [])) (ap (λ m. waits call (line m)) (sym (eqb-true number n e)) ∙ is))
+    by false e = sym (without_absent call (line n) (away e (waits call (line n)) refl))
 
   pub listed_placed : (number call : ℕ) → (n c : ℕ) → waits c (listed number call n) ≡ true → cond (call == c) (Some number) (place c) ≡ Some n
   listed_placed number call n c is = by (call == c) refl (number == n) refl is where

@@ -83,6 +83,14 @@ module _ (line : ℕ → List ℕ) (place : ℕ → Option ℕ)
   pub listed_asleep : (n c : ℕ) → waits c (line n) ≡ true → out_at line (place c) c ≡ false
   listed_asleep n c is = ap (λ o. out_at line o c) (placed n c is) ∙ ap not is
 
+  -- one that is listed isn't woken, and is not from then on
+  pub out_already : (number call : ℕ) → waits call (line number) ≡ true →
+      (c : ℕ) → out_at line (place c) c ≡ cond (call == c) false (out_at line (place c) c)
+  out_already number call is c = by (call == c) refl where
+    by : (b : Bool) → (call == c) ≡ b → out_at line (place c) c ≡ cond b false (out_at line (place c) c)
+    by true e = listed_asleep number c (ap (λ k. waits k (line number)) (sym (eqb-true call c e)) ∙ is)
+    by false e = refl
+
   -- a call is listed: it is not woken any more
   pub out_listed : (number call : ℕ) (new : ℕ → List ℕ) (then : ℕ → Option ℕ) →
       ((n : ℕ) → new n ≡ listed line place placed number call n) →

@@ -18,10 +18,12 @@ use Rattle.moka_desk.specs.Locks.{lock_part, LocksAre}
 use Rattle.moka_desk.specs.Notices.{notice_part, NoticesAre}
 use Rattle.moka_desk.specs.Asks.{ask_part, AsksAre}
 use Rattle.moka_desk.specs.Predicates.{predicate_part, PredicatesAre}
+use Rattle.moka_desk.specs.Waits.{WaitersAreListed}
 use Rattle.moka_desk.specs.declared.state.Desk.{Desk}
 
 -- The desk has what the reference's desk has, part by part. Of the past it has with a history all,
--- and without one what its parts say. When records were seen it has where that is kept.
+-- and without one what its parts say. When records were seen it has where that is kept. Calls that
+-- wait for an owner are on its list.
 pub record StandsFor {K V E S H : Type 0} {same : PartialEq.Ghosts K} {hash : Hash.Ghosts K}
     {build : BuildHasher.Ghosts S H} {hasher : Hasher.Ghosts H}
     (eq : K → K → Bool) (desk : Desk K V E S H same hash build hasher)
@@ -39,6 +41,7 @@ pub record StandsFor {K V E S H : Type 0} {same : PartialEq.Ghosts K} {hash : Ha
   pub locks : LocksAre eq desk.locks (lock_part w)
   pub notices : NoticesAre desk.notices (notice_part w)
   pub asks : AsksAre desk.asks (ask_part w)
+  pub listed : WaitersAreListed desk w
 
 module _ {K V E S H : Type 0} {same : PartialEq.Ghosts K} {hash : Hash.Ghosts K}
     {build : BuildHasher.Ghosts S H} {hasher : Hasher.Ghosts H} (eq : K → K → Bool)

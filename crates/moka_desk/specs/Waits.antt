@@ -1,13 +1,17 @@
 -- Who waits at the desk, and for what.
-use Rattle.std.specs.Prelude.{◌≡◌, ℕ, ◌==◌, cond, List, [], Option, nat_eq}
+use Rattle.std.specs.Prelude.{◌≡◌, ℕ, ◌+◌, ◌==◌, true, cond, List, [], Option, Some, nat_eq, IsNone, IsSome}
 use Rattle.std.specs.HashMap.{get}
 use Rattle.std.specs.declared.cmp.PartialEq as PartialEq
 use Rattle.std.specs.declared.hash.Hash as Hash
 use Rattle.std.specs.declared.hash.Hasher as Hasher
 use Rattle.std.specs.declared.hash.BuildHasher as BuildHasher
+use Rattle.moka_hist.specs.Finite.{put_at}
+use Rattle.moka_hist.specs.State.{DeskPart}
 use Rattle.moka_hist.specs.declared.events.Told.{Told}
 use Rattle.moka_hist.specs.declared.events.Told.TheVariants as answer
-use Rattle.moka_sync.specs.Waiting.{without}
+use Rattle.moka_hist.specs.declared.visits.Claim.{Claim}
+use Rattle.moka_hist.specs.declared.visits.Claim.TheVariants as claim
+use Rattle.moka_sync.specs.Waiting.{waits, without}
 use Rattle.moka_desk.specs.Asks.{asker_at}
 use Rattle.moka_desk.specs.Loads.{unsettled}
 use Rattle.moka_desk.specs.Lines.{line_at, is_at, with_call}
@@ -26,6 +30,14 @@ waits_at place call n calls = cond (is_at place n) (with_call call calls) (witho
 
 abbrev pub comes : ℕ → ℕ → List ℕ → List ℕ
 comes number n calls = cond (number == n) [] calls
+
+module _ {K V E : Type 0} where
+  -- the call, which waits for nobody, waits for this owner
+  abbrev pub joined_to : DeskPart K V E → ℕ → ℕ → DeskPart K V E
+  joined_to w call owner = record w {
+    joined = put_at w.joined call (Some owner);
+    readers = put_at w.readers owner (w.readers owner + 1);
+  }
 
 module _ {K V E S H : Type 0} {same : PartialEq.Ghosts K} {hash : Hash.Ghosts K}
     {build : BuildHasher.Ghosts S H} {hasher : Hasher.Ghosts H} where
@@ -47,6 +59,13 @@ module _ {K V E S H : Type 0} {same : PartialEq.Ghosts K} {hash : Hash.Ghosts K}
   abbrev pub awaited : Desk K V E S H same hash build hasher → ℕ → Option ℕ
   awaited desk call =
       unsettled (get nat_eq desk.loads.joined call) (λ owner. get nat_eq desk.loads.settled owner)
+
+  -- Each call that waits for an owner which has not settled is on its list, from its joining on;
+  -- and the owner has its load still, so that it will settle it, or leave.
+  abbrev pub WaitersAreListed : Desk K V E S H same hash build hasher → DeskPart K V E → Type 0
+  WaitersAreListed desk w =
+      (call owner : ℕ) → w.joined call ≡ Some owner → IsNone (w.settled owner) →
+      IsSome (w.owning owner) × (waits call (settlement_line desk owner) ≡ true)
 
   -- the call, where it waits for the answer to its own ask
   abbrev pub answer_line : Desk K V E S H same hash build hasher → ℕ → List ℕ
@@ -78,6 +97,13 @@ module _ {K V E S H : Type 0} {same : PartialEq.Ghosts K} {hash : Hash.Ghosts K}
   SettlementsMove old change new =
       ((n : ℕ) → settlement_line new n ≡ change n (settlement_line old n)) ×
       (new.waits ≡ record old.waits { settlements = new.waits.settlements }) × (new.asks ≡ old.asks)
+
+  -- a call that owns comes to no list; one that waits comes to that of its owner, and is on no other
+  abbrev pub ClaimMoves : Desk K V E S H same hash build hasher → ℕ → Claim →
+      Desk K V E S H same hash build hasher → Type 0
+  ClaimMoves old call claim.Owner new = NobodyMoves old new
+  ClaimMoves old call (claim.Waits owner) new =
+      SettlementsMove old (waits_at (Some owner) call) new
 
   abbrev pub LocksMove : Desk K V E S H same hash build hasher → (ℕ → List ℕ → List ℕ) →
       Desk K V E S H same hash build hasher → Type 0

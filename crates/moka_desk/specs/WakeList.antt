@@ -6,6 +6,8 @@ use Rattle.std.specs.declared.hash.Hasher as Hasher
 use Rattle.std.specs.declared.hash.BuildHasher as BuildHasher
 use Rattle.moka_hist.specs.declared.events.Told.{Told}
 use Rattle.moka_hist.specs.declared.events.Told.TheVariants as answer
+use Rattle.moka_hist.specs.declared.visits.Claim.{Claim}
+use Rattle.moka_hist.specs.declared.visits.Claim.TheVariants as claim
 use Rattle.moka_desk.specs.ListedMiss.{EachListed}
 use Rattle.moka_desk.specs.Waits.{turn_line, settlement_line, lock_line, notice_line, answer_line}
 use Rattle.moka_desk.specs.Woken.{is_out, is_told, all_but, and_calls}
@@ -87,6 +89,13 @@ module _ {K V E S H : Type 0} {same : PartialEq.Ghosts K} {hash : Hash.Ghosts K}
       Desk K V E S H same hash build hasher → Type 0
   SettlementsWake old change new =
       Wake old (λ l. record l { settlements = change l.settlements }) new
+
+  -- a call that owns leaves it for nothing; one that waits is not woken any more for what it waited
+  -- for before
+  abbrev pub ClaimWakes : Desk K V E S H same hash build hasher → ℕ → Claim →
+      Desk K V E S H same hash build hasher → Type 0
+  ClaimWakes old call claim.Owner new = NobodyWakes old new
+  ClaimWakes old call (claim.Waits owner) new = SettlementsWake old (all_but call) new
 
   abbrev pub AnswersWake : Desk K V E S H same hash build hasher → Change →
       Desk K V E S H same hash build hasher → Type 0

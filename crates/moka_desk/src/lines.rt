@@ -38,18 +38,23 @@ impl Lines {
         }
     }
 
-    /// Lists the call, once, for the thing of this number, and for no other. For want of memory
-    /// nothing has changed.
+    /// Lists the call, once, for the thing of this number, and for no other. Where it is listed for
+    /// that already, nothing changes and no memory is wanted. For want of memory nothing has
+    /// changed.
     pub(crate) fn wait(&mut self, number: u64, call: u64) -> Result<(), AllocError>
         ensures ok { OnOk result ((n : ℕ) → line_at self.new.lists n
             ≡ cond (number == n) (with_call call (line_at self.old.lists n))
             (without call (line_at self.old.lists n))) }
         ensures err { OnErr result ((n : ℕ) → line_at self.new.lists n ≡ line_at self.old.lists n) }
+        ensures needs { OnErr result (waits call (line_at self.old.lists number) ≡ false) }
         // who is woken
         ensures back { OnOk result ((c : ℕ) →
             is_out self.new c ≡ all_but call (is_out self.old) c) }
         ensures still { OnErr result ((c : ℕ) → is_out self.new c ≡ is_out self.old c) }
     {
+        if self.is_listed(number, call) {
+            return Ok(());
+        }
         map_room::reserve(&mut self.places, 1)?;
         add_to(self.alloc, &mut self.lists, number, call)?;
         let before = self.places.get(&call).copied();
@@ -107,9 +112,16 @@ impl Lines {
         let Some(number) = self.places.get(&call).copied() else {
             return false;
         };
+        !self.is_listed(number, call)
+    }
+
+    // Whether the call is listed for the thing of this number.
+    fn is_listed(&self, number: u64, call: u64) -> bool
+        ensures { result ≡ waits call (line_at self.now.lists number) }
+    {
         match self.lists.get(&number) {
-            Some(list) => !list.contains(call),
-            None => true,
+            Some(list) => list.contains(call),
+            None => false,
         }
     }
 }

@@ -1,7 +1,8 @@
 //! The visits that see to keys' locks and to the listener.
 
-ghost use Rattle.std.specs.Prelude.{◌≡◌, true, Some, IfOk, OnOk, OnErr};
+ghost use Rattle.std.specs.Prelude.{◌≡◌, ℕ, true, false, Some, IfOk, OnOk, OnErr};
 ghost use Rattle.std.specs.Bool.{OnTrue, OnFalse};
+ghost use Rattle.moka_sync.specs.Waiting.{waits};
 
 use crate::Desk;
 use crate::notices::Heard;
@@ -26,7 +27,7 @@ impl<K: Eq + Hash + Exact, V: Drop, E: Drop, S: BuildHasher + Drop> Desk<K, V, E
     ghost use Rattle.moka_desk.specs.ListedMiss.{MissAfter, MissWith};
 
     /// Takes the key's lock for the call, which holds none. Answers false where another call holds
-    /// it; the call waits for it then.
+    /// it; the call waits for it then. Where it is listed for that already no memory is wanted.
     #[cold]
     #[inline(never)]
     pub fn lock_key(&mut self, call: u64, key: &K) -> Result<bool, AllocError>
@@ -43,6 +44,9 @@ impl<K: Eq + Hash + Exact, V: Drop, E: Drop, S: BuildHasher + Drop> Desk<K, V, E
         ensures unlisted { OnErr result (LocksMove self.old stays self.new) }
         ensures back { OnOk result (LocksWake self.old (all_but call) self.new) }
         ensures still { OnErr result (NobodyWakes self.old self.new) }
+        ensures needs_place { OnErr result ((holder : ℕ)
+            → holder_of K.eq self.old.locks key.now ≡ Some holder
+            → waits call (lock_line self.old holder) ≡ false) }
         // who is listed misses that thing
         ensures misses { OnOk result
             (MissAfter K.eq self.old (visit.LockKey call key.now) self.new) }
@@ -113,8 +117,8 @@ impl<K: Eq + Hash + Exact, V: Drop, E: Drop, S: BuildHasher + Drop> Desk<K, V, E
         Ok(asked.then_some(cause))
     }
 
-    /// Whether the notice of this number runs no longer. Where it runs the call waits for its end,
-    /// and only there memory may be wanting.
+    /// Whether the notice of this number runs no longer. Where it runs the call waits for its end.
+    /// Only there, and where it isn't listed for that yet, memory may be wanting.
     #[cold]
     #[inline(never)]
     pub fn notice_ended(&mut self, call: u64, notice: u64) -> Result<bool, AllocError>
@@ -133,6 +137,7 @@ impl<K: Eq + Hash + Exact, V: Drop, E: Drop, S: BuildHasher + Drop> Desk<K, V, E
         ensures still { OnErr result (NobodyWakes self.old self.new) }
         ensures needs { OnErr result ((w : DeskPart K V E) → StandsFor K.eq self.old w
             → is_running w notice ≡ true) }
+        ensures needs_place { OnErr result (waits call (notice_line self.old notice) ≡ false) }
         // who is listed misses that thing
         ensures misses { OnOk result
             (MissAfter K.eq self.old (visit.NoticeEnded call notice) self.new) }

@@ -1,6 +1,7 @@
 //! The visits that see to loads and asks, and a call that leaves.
 
-ghost use Rattle.std.specs.Prelude.{◌≡◌, ℕ, true, Some, None, ◌++◌, is_some, IsNone, IfOk, IfNone, IfSome, MatchOption, OnSome, OnOk, OnErr, if◌then◌else◌};
+ghost use Rattle.std.specs.Prelude.{◌≡◌, ℕ, true, Some, None, ◌++◌, is_some, IsNone, IsSome, IfOk, IfNone, IfSome, MatchOption, OnSome, OnOk, OnErr, if◌then◌else◌, nat_eq};
+ghost use Rattle.std.specs.HashMap.{get};
 ghost use Rattle.moka_sync.specs.Waiting.{without};
 
 use crate::Desk;
@@ -20,17 +21,19 @@ impl<K: Eq + Hash + Exact, V: Drop, E: Drop, S: BuildHasher + Drop> Desk<K, V, E
     ghost use Rattle.moka_hist.specs.declared.loads.Kind.TheVariants as kind;
     ghost use Rattle.moka_hist.specs.declared.visits.Visit.TheVariants as visit;
     ghost use Rattle.moka_hist.specs.declared.visits.Found.TheVariants as found;
-    ghost use Rattle.moka_desk.specs.Waits.{awaited, comes, leaves, lock_line, notice_line, settlement_line, stays, told_line, waits_at, AnswersMove, LeftMove, NobodyMoves, NoticesMove, SettlementsMove, ToldMove};
-    ghost use Rattle.moka_desk.specs.WakeList.{after_leaving, AnswersWake, NobodyWakes, NoticesWake, SettlementsWake, ToldWake, Wake};
+    ghost use Rattle.moka_desk.specs.Waits.{awaited, comes, leaves, lock_line, notice_line, settlement_line, stays, told_line, waits_at, AnswersMove, ClaimMoves, LeftMove, NobodyMoves, NoticesMove, SettlementsMove, ToldMove};
+    ghost use Rattle.moka_desk.specs.WakeList.{after_leaving, AnswersWake, ClaimWakes, NobodyWakes, NoticesWake, SettlementsWake, ToldWake, Wake};
     ghost use Rattle.moka_desk.specs.Woken.{all_but, and_calls};
     ghost use Rattle.moka_desk.specs.Asks.{asks_if, is_open};
     ghost use Rattle.moka_desk.specs.History.{KeepsAsBefore};
     ghost use Rattle.moka_desk.specs.Readers.{is_copied};
+    ghost use Rattle.moka_desk.specs.Waits.{joined_to};
     ghost use Rattle.moka_desk.specs.StandsFor.{StandsFor, Can, CanLeave, Finds, Becomes, Makes, Stays};
-    ghost use Rattle.moka_desk.specs.ListedMiss.{MissAfter, MissWith};
+    ghost use Rattle.moka_desk.specs.ListedMiss.{ListedMiss, MissAfter, MissWith};
 
     /// Makes the call the owner of a load that nobody owns, or lets it wait for the owner. An owner
-    /// gets the place of its settlement. Before that the call owns nothing and waits for nobody.
+    /// gets the place of its settlement; one that waits gets its place on the owner's list, and no
+    /// later visit takes one for it. Before that the call owns nothing and waits for nobody.
     pub fn wait_or_own(&mut self, call: u64, load: Load<K>) -> Result<Claim, AllocError>
         requires free { Can K.eq self.old (visit.WaitOrOwn call load.key load.kind) }
         ensures finds { IfOk result (λ claim. Finds K.eq self.old
@@ -39,14 +42,49 @@ impl<K: Eq + Hash + Exact, V: Drop, E: Drop, S: BuildHasher + Drop> Desk<K, V, E
         ensures makes { OnOk result (Makes K.eq self.old
             (visit.WaitOrOwn call load.key load.kind) self.new) }
         ensures err { OnErr result (Stays K.eq self.old self.new) }
-        ensures quiet { NobodyMoves self.old self.new }
-        ensures wakes { NobodyWakes self.old self.new }
+        // who waits
+        ensures waits { IfOk result (λ claim. ClaimMoves self.old call claim self.new) }
+        ensures unlisted { OnErr result (SettlementsMove self.old stays self.new) }
+        ensures wakes { IfOk result (λ claim. ClaimWakes self.old call claim self.new) }
+        ensures still { OnErr result (NobodyWakes self.old self.new) }
+        // who is listed misses that thing
         ensures misses { OnOk result
             (MissAfter K.eq self.old (visit.WaitOrOwn call load.key load.kind) self.new) }
         ensures misses_still { OnErr result (MissWith K.eq self.old (λ w. w) self.new) }
         ensures kept { KeepsAsBefore self.old self.new }
     {
-        self.loads.claim(call, load)
+        if let Some(owner) = self.loads.owner_of(&load) {
+            drop(load);
+            self.join(call, owner)?;
+            return Ok(Claim::Waits { owner });
+        }
+        self.loads.own(call, load)?;
+        Ok(Claim::Owner)
+    }
+
+    // Lets the call, which waits for nobody, wait for the owner, on its list.
+    fn join(&mut self, call: u64, owner: u64) -> Result<(), AllocError>
+        requires apart { get nat_eq self.old.loads.joined call ≡ None }
+        ensures makes { OnOk result ((w : DeskPart K V E) → StandsFor K.eq self.old w
+            → IsSome (w.owning owner) → StandsFor K.eq self.new (joined_to w call owner)) }
+        ensures err { OnErr result (Stays K.eq self.old self.new) }
+        // who waits
+        ensures waits { OnOk result
+            (SettlementsMove self.old (waits_at (Some owner) call) self.new) }
+        ensures unlisted { OnErr result (SettlementsMove self.old stays self.new) }
+        ensures back { OnOk result (SettlementsWake self.old (all_but call) self.new) }
+        ensures still { OnErr result (NobodyWakes self.old self.new) }
+        // who is listed misses that thing
+        ensures misses { OnOk result ((w : DeskPart K V E) → IsNone (w.joined call)
+            → IsNone (w.settled owner) → ListedMiss self.old w
+            → ListedMiss self.new (joined_to w call owner)) }
+        ensures misses_still { OnErr result (MissWith K.eq self.old (λ w. w) self.new) }
+        ensures kept { KeepsAsBefore self.old self.new }
+    {
+        self.loads.make_room_to_join()?;
+        self.waits.settlements.wait(owner, call)?;
+        self.loads.join(call, owner);
+        Ok(())
     }
 
     /// Makes the call the owner of the key's computes, where no call is. Answers whether another
@@ -70,8 +108,9 @@ impl<K: Eq + Hash + Exact, V: Drop, E: Drop, S: BuildHasher + Drop> Desk<K, V, E
         self.loads.claim_alone(call, Load { key, kind })
     }
 
-    /// Reads how the owner ended that the call waits for, or answers NotYet where it has not ended.
-    /// A call that has read the end waits no longer, and the last one takes the end away.
+    /// Reads how the owner ended that the call waits for, or answers NotYet where it has not ended:
+    /// the call is on the owner's list since it joined. A call that has read the end waits no longer,
+    /// and the last one takes the end away. Memory is wanted only to copy a value or an error.
     pub fn read_settled(&mut self, call: u64) -> Result<Settled<V, E>, AllocError>
     where
         V: Exact,
@@ -89,15 +128,14 @@ impl<K: Eq + Hash + Exact, V: Drop, E: Drop, S: BuildHasher + Drop> Desk<K, V, E
         ensures unlisted { OnErr result (SettlementsMove self.old stays self.new) }
         ensures back { OnOk result (SettlementsWake self.old (all_but call) self.new) }
         ensures still { OnErr result (NobodyWakes self.old self.new) }
-        ensures needs { OnErr result (awaited self.old call ≡ None → (w : DeskPart K V E)
-            → StandsFor K.eq self.old w → is_copied (settlement_for w call) ≡ true) }
+        ensures needs { OnErr result ((w : DeskPart K V E) → StandsFor K.eq self.old w
+            → is_copied (settlement_for w call) ≡ true) }
         // who is listed misses that thing
         ensures misses { OnOk result (MissAfter K.eq self.old (visit.ReadSettled call) self.new) }
         ensures misses_still { OnErr result (MissWith K.eq self.old (λ w. w) self.new) }
         ensures kept { KeepsAsBefore self.old self.new }
     {
-        if let Some(owner) = self.loads.awaited(call) {
-            self.waits.settlements.wait(owner, call)?;
+        if self.loads.awaited(call).is_some() {
             return Ok(Settled::NotYet);
         }
         let settlement = self.loads.read(call)?;

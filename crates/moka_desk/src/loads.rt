@@ -8,7 +8,7 @@ ghost use Rattle.moka_needs.specs.Needs.{ending_of};
 ghost use Rattle.moka_desk.specs.Readers.{has_content, is_copied, waiting_for};
 
 use crate::maps::{put, replace};
-use moka_hist::{Claim, Load, Settled};
+use moka_hist::{Load, Settled};
 use moka_needs::Ending;
 use moka_room::map_room;
 use moka_values::Exact;
@@ -37,7 +37,7 @@ impl<K: Eq + Hash + Exact, V: Drop, E: Drop, S: BuildHasher> Loads<K, V, E, S> {
     ghost use Rattle.moka_hist.specs.declared.loads.Load.{Load as load_of};
     ghost use Rattle.moka_hist.specs.declared.visits.Settled.TheVariants as settled;
     ghost use Rattle.moka_hist.specs.declared.writes.Write.{Write};
-    ghost use Rattle.moka_hist.specs.Visits.{claim_of, claimed, claimed_alone, read, readers_without, settled_without, settled_as, owners_without, settlement_for};
+    ghost use Rattle.moka_hist.specs.Visits.{claimed_alone, read, readers_without, settled_without, settled_as, owners_without, settlement_for};
     ghost use Rattle.moka_hist.specs.Dropping.{left};
     ghost use Rattle.moka_desk.specs.Loads.{load_part, unsettled, LoadsAre, LoadsBecome, LoadsStay, LoadsMake};
 
@@ -60,29 +60,11 @@ impl<K: Eq + Hash + Exact, V: Drop, E: Drop, S: BuildHasher> Loads<K, V, E, S> {
         }
     }
 
-    /// Makes the call, which owns nothing and waits for nobody, the owner of a load that nobody
-    /// owns, or lets it wait for the owner.
-    pub(crate) fn claim(&mut self, call: u64, load: Load<K>) -> Result<Claim, AllocError>
-        requires idle { get nat_eq self.old.owning call ≡ None }
-        requires apart { get nat_eq self.old.joined call ≡ None }
-        ensures finds { IfOk result (λ claim. (w : DeskPart K V E) →
-            LoadsAre K.eq self.old (load_part w)
-            → claim ≡ claim_of (w.owners load)) }
-        ensures ok { OnOk result (LoadsMake K.eq self.old
-            (λ w. load_part (claimed K.eq w call load (w.owners load))) self.new) }
-        ensures err { OnErr result (LoadsStay K.eq self.old self.new) }
+    /// The owner of the load, if there is one.
+    pub(crate) fn owner_of(&self, load: &Load<K>) -> Option<u64>
+        ensures { result ≡ get (load_eq K.eq) self.now.owners load.now }
     {
-        match self.owners.get(&load).copied() {
-            Some(owner) => {
-                drop(load);
-                self.join(call, owner)?;
-                Ok(Claim::Waits { owner })
-            }
-            None => {
-                self.own(call, load)?;
-                Ok(Claim::Owner)
-            }
-        }
+        self.owners.get(load).copied()
     }
 
     /// Makes the call, which owns nothing, the owner of a load that nobody owns. Answers whether
@@ -107,26 +89,33 @@ impl<K: Eq + Hash + Exact, V: Drop, E: Drop, S: BuildHasher> Loads<K, V, E, S> {
         Ok(false)
     }
 
-    // Lets the call, which waits for nobody, wait for the owner.
-    fn join(&mut self, call: u64, owner: u64) -> Result<(), AllocError>
-        requires { get nat_eq self.old.joined call ≡ None }
-        ensures ok { OnOk result (LoadsBecome K.eq self.old
+    /// Makes room for one more call that waits for an owner.
+    pub(crate) fn make_room_to_join(&mut self) -> Result<(), AllocError>
+        ensures same { LoadsStay K.eq self.old self.new }
+        ensures joined { (n : ℕ) → get nat_eq self.new.joined n ≡ get nat_eq self.old.joined n }
+        ensures room { OnOk result ((0 < spare self.new.joined) × (0 < spare self.new.readers)) }
+    {
+        map_room::reserve(&mut self.joined, 1)?;
+        map_room::reserve(&mut self.readers, 1)
+    }
+
+    /// Lets the call, which waits for nobody, wait for the owner. There is room for it.
+    pub(crate) fn join(&mut self, call: u64, owner: u64)
+        requires apart { get nat_eq self.old.joined call ≡ None }
+        requires room { (0 < spare self.old.joined) × (0 < spare self.old.readers) }
+        ensures makes { LoadsBecome K.eq self.old
             (λ p. record p {
               joined = put_at p.joined call (Some owner);
               readers = put_at p.readers owner (p.readers owner + 1);
-            }) self.new) }
-        ensures err { OnErr result (LoadsStay K.eq self.old self.new) }
+            }) self.new }
     {
-        map_room::reserve(&mut self.joined, 1)?;
-        map_room::reserve(&mut self.readers, 1)?;
         let waiting = self.readers_of(owner) + 1;
         put(&mut self.readers, owner, waiting);
         put(&mut self.joined, call, owner);
-        Ok(())
     }
 
-    // Makes the call, which owns nothing, the owner of the load, which has no owner.
-    fn own(&mut self, call: u64, load: Load<K>) -> Result<(), AllocError>
+    /// Makes the call, which owns nothing, the owner of the load, which has no owner.
+    pub(crate) fn own(&mut self, call: u64, load: Load<K>) -> Result<(), AllocError>
         requires idle { get nat_eq self.old.owning call ≡ None }
         requires free { get (load_eq K.eq) self.old.owners load ≡ None }
         ensures ok { OnOk result (LoadsBecome K.eq self.old

@@ -1,8 +1,9 @@
 //! The visits that see to writes: owed, logged and applied.
 
-ghost use Rattle.std.specs.Prelude.{◌≡◌, false, None, cond, IfOk, OnOk, OnErr};
+ghost use Rattle.std.specs.Prelude.{◌≡◌, ℕ, false, Some, None, cond, IfOk, OnOk, OnErr};
 ghost use Rattle.std.specs.Bool.{OnTrue, OnFalse};
 ghost use Rattle.moka_sync.specs.Holders.{is_others};
+ghost use Rattle.moka_sync.specs.Waiting.{waits};
 
 use crate::Desk;
 use moka_hist::{Owed, Write};
@@ -96,7 +97,8 @@ impl<K: Eq + Hash + Exact, V: Drop, E: Drop, S: BuildHasher + Drop> Desk<K, V, E
     }
 
     /// Takes the maintenance turn for the call, which doesn't have it. Answers false where another
-    /// call has it; the call waits for it then, and only there memory may be wanting.
+    /// call has it; the call waits for it then. Only there, and where it isn't listed for it yet,
+    /// memory may be wanting.
     #[cold]
     #[inline(never)]
     pub fn take_turn(&mut self, call: u64) -> Result<bool, AllocError>
@@ -116,6 +118,8 @@ impl<K: Eq + Hash + Exact, V: Drop, E: Drop, S: BuildHasher + Drop> Desk<K, V, E
         ensures still { OnErr result (NobodyWakes self.old self.new) }
         ensures needs { OnErr result ((w : DeskPart K V E) → StandsFor K.eq self.old w
             → is_free_for w call ≡ false) }
+        ensures needs_place { OnErr result ((holder : ℕ) → self.old.turn ≡ Some holder
+            → waits call (turn_line self.old holder) ≡ false) }
         // who is listed misses that thing
         ensures misses { OnOk result (MissAfter K.eq self.old (visit.TakeTurn call) self.new) }
         ensures misses_still { OnErr result (MissWith K.eq self.old (λ w. w) self.new) }

@@ -1,10 +1,9 @@
 -- What a flow stands on.
-use Rattle.std.specs.Prelude.{◌≡◌, ◌≤◌, ℕ, suc, ◌+◌, ◌*◌, Bool, true, false, List, [], ◌∷◌, ◌++◌, Option, Some, None}
+use Rattle.std.specs.Prelude.{◌≡◌, ◌≤◌, ℕ, suc, ◌+◌, ◌*◌, Bool, List, [], ◌∷◌, ◌++◌, Option, Some, None}
 use Rattle.std.specs.Prelude.{MatchBool, MatchOption}
-use Rattle.moka_hist.specs.State.{DeskPart, World}
+use Rattle.moka_hist.specs.State.{World}
 use Rattle.moka_hist.specs.Plan.{Item}
 use Rattle.moka_hist.specs.Plan as plan
-use Rattle.moka_hist.specs.Visits.{is_free_for, is_running}
 use Rattle.moka_hist.specs.Step.{Access, Gets, access_of, want_for, May}
 use Rattle.moka_hist.specs.Step as step
 use Rattle.moka_hist.specs.declared.tables.TableOp.{TableOp}
@@ -103,43 +102,6 @@ module _ {K V E : Type 0} where
   abbrev pub TakesCopies : Access K V E → Type 0
   TakesCopies (step.On_table operation) = Unit {0}
   TakesCopies (step.On_desk made) = VisitTakesCopies made
-
-  -- Memory may be wanting for such a visit of the desk: it copies a key or a value, or writes down
-  -- what is new; where the turn is another's, or the notice runs, it lists the call. Taking up what
-  -- is owed or told, freeing a lock, posting a write, applying the log, invalidating all and letting
-  -- predicates go need none.
-  abbrev pub VisitNeedsMemory : DeskPart K V E → Visit K V E → Type 0
-  VisitNeedsMemory w (visit.Clock n) = ⊥
-  VisitNeedsMemory w (visit.TakeOwed n) = ⊥
-  VisitNeedsMemory w (visit.NoticeEnded n number) = is_running w number ≡ true
-  VisitNeedsMemory w (visit.LockKey n key) = Unit {0}
-  VisitNeedsMemory w (visit.UnlockKey n wrote) = ⊥
-  VisitNeedsMemory w (visit.OpenNotice n key value stamp modified cause upsert) = Unit {0}
-  VisitNeedsMemory w (visit.StampMoment n) = Unit {0}
-  VisitNeedsMemory w (visit.Judge replace key stored) = Unit {0}
-  VisitNeedsMemory w (visit.Scan key stored) = Unit {0}
-  VisitNeedsMemory w (visit.Holds key stored cause) = Unit {0}
-  VisitNeedsMemory w (visit.WaitOrOwn n key kind) = Unit {0}
-  VisitNeedsMemory w (visit.OwnAlone n key) = Unit {0}
-  VisitNeedsMemory w (visit.ReadSettled n) = Unit {0}
-  VisitNeedsMemory w (visit.Settle n with) = SettledNeedsMemory with
-  VisitNeedsMemory w (visit.OpenAsk n takes) = Unit {0}
-  VisitNeedsMemory w (visit.TakeTold n) = ⊥
-  VisitNeedsMemory w (visit.PostWrite n write) = ⊥
-  VisitNeedsMemory w (visit.TakeTurn n) = is_free_for w n ≡ false
-  VisitNeedsMemory w (visit.ApplyOne n) = ⊥
-  VisitNeedsMemory w (visit.EndTurn n) = ⊥
-  VisitNeedsMemory w visit.InvalidateAll = ⊥
-  VisitNeedsMemory w (visit.Register test) = w.rules.closures ≡ true
-  VisitNeedsMemory w visit.Candidates = Unit {0}
-  VisitNeedsMemory w (visit.Strike ids key stored) = Unit {0}
-  VisitNeedsMemory w (visit.Retire ids) = ⊥
-
-  -- memory may be wanting for such an access in this world: it goes to the table, or is such a
-  -- visit
-  abbrev pub NeedsMemory : World K V E → Access K V E → Type 0
-  NeedsMemory w (step.On_table operation) = Unit {0}
-  NeedsMemory w (step.On_desk made) = VisitNeedsMemory w.desk made
 
   -- whatever the access
   abbrev pub any_access : World K V E → Access K V E → Type 0

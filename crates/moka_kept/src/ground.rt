@@ -80,7 +80,8 @@ impl<K: Eq + Hash + Exact, V: Exact, E: Exact, S: BuildHasher + Drop> Reach<K, V
 impl<K: Eq + Hash + Exact, V: Exact, E: Exact, S: BuildHasher + Drop> Ground<K, V, E>
     for Reach<K, V, E, S> {
     ghost use Rattle.moka_hist.specs.State.{World};
-    ghost use Rattle.moka_init.specs.Grounds.{Accesses, Gives, Lacks, NeedsMemory, OfWanted};
+    ghost use Rattle.moka_init.specs.Grounds.{Accesses, Gives, Lacks, OfWanted};
+    ghost use Rattle.moka_layers.specs.Needing.{NeedsMemory};
     ghost use Rattle.moka_layers.specs.Layers.{account_of};
     ghost use Rattle.moka_table.specs.Plain.{plain_table};
 

@@ -1,7 +1,7 @@
 -- What a visit that is known finds and makes, the visit that is this one finds and makes.
 use Rattle.std.proofs.Common.{◌≡◌, ℕ, Bool, true, false, cond, Option, Some, None, is_some, sym, subst, ap, ◌∙◌}
-use Rattle.std.specs.Prelude.{Result, IfOk, not, ◌&&◌}
-use Rattle.std.proofs.lemmas.Result.{IfOk-weaker}
+use Rattle.std.specs.Prelude.{Result, Ok, Err, IfOk, OnErr, MatchOption, not, ◌&&◌}
+use Rattle.std.proofs.lemmas.Result.{IfOk-weaker, on_err_weaker}
 use Rattle.std.specs.declared.cmp.PartialEq as PartialEq
 use Rattle.std.specs.declared.hash.Hash as Hash
 use Rattle.std.specs.declared.hash.Hasher as Hasher
@@ -11,14 +11,19 @@ use Rattle.moka_hist.specs.State.{DeskPart, Handed}
 use Rattle.moka_hist.specs.Visits.{makes, claimed, claimed_alone, is_hit, is_seen, is_unlocked_for, locked_by, settlement_for, readers_without, settled_without}
 use Rattle.moka_hist.specs.declared.loads.Kind.TheVariants as kind
 use Rattle.moka_hist.specs.declared.records.Stored.{Stored}
+use Rattle.moka_hist.specs.declared.visits.Settled.{Settled}
+use Rattle.moka_hist.specs.declared.visits.Settled.TheVariants as settled
 use Rattle.moka_hist.specs.declared.visits.Visit.{Visit}
 use Rattle.moka_hist.specs.declared.visits.Visit.TheVariants as visit
 use Rattle.moka_hist.specs.declared.visits.Found.{Found}
 use Rattle.moka_desk.specs.Moments.{is_shown}
+use Rattle.moka_desk.specs.Readers.{is_copied}
 use Rattle.moka_desk.specs.declared.state.Desk.{Desk}
 use Rattle.moka_init.specs.Forms.{IsFoundBy}
+use Rattle.moka_init.specs.Grounds.{SettledNeedsMemory}
+use Rattle.moka_layers.specs.Needing.{VisitNeedsMemory}
 use Rattle.moka_layers.specs.Handing.{IsHanded}
-use Rattle.moka_layers.specs.Visiting.{VisitBy, VisitIs, test_holds}
+use Rattle.moka_layers.specs.Visiting.{VisitBy, VisitIs, VisitLacks, test_holds}
 
 module _ {K V E : Type 0} where
   -- the visit registers a predicate, and so draws ids
@@ -60,6 +65,19 @@ module _ {K V E : Type 0} where
       (is_replaced_so ∙ ap (λ (a : ℕ → K → V → Bool). test_holds a replace key stored.value) tests)
       ∙ ap (λ b. not (test_holds w.tests replace key stored.value) && is_shown w b stored.stamp stored.modified) is_hit_so
 
+no : false ≡ true → ⊥
+no e = cc
+
+module _ {V E : Type 0} where
+  -- what is copied of how an owner ended wants memory
+  pub copied_needs : (o : Option (Settled V E)) → is_copied o ≡ true → MatchOption o ⊥ (λ s. SettledNeedsMemory s)
+  copied_needs None e = no e
+  copied_needs (Some settled.NotYet) e = no e
+  copied_needs (Some (settled.Ready value)) e = tt
+  copied_needs (Some (settled.Err error)) e = tt
+  copied_needs (Some settled.Nothing) e = no e
+  copied_needs (Some settled.Aborted) e = no e
+
 module _ {K V E S H : Type 0} {same : PartialEq.Ghosts K} {hash : Hash.Ghosts K} {build : BuildHasher.Ghosts S H} {hasher : Hasher.Ghosts H} (eq : K → K → Bool) (old : Desk K V E S H same hash build hasher) (made known : Visit K V E) (is : made ≡ known)
     (handed : Handed K V) where
   pub by_handed : (new : Desk K V E S H same hash build hasher) (f : Found V E) (left : Handed K V)
@@ -91,3 +109,20 @@ module _ {K V E S H : Type 0} {same : PartialEq.Ghosts K} {hash : Hash.Ghosts K}
       → IfOk r (λ f. VisitIs eq old known f new) → IfOk r (λ f. VisitBy eq handed old made f new handed)
   may_make new r draws =
       IfOk-weaker r (λ f. VisitIs eq old known f new) (λ f. VisitBy eq handed old made f new handed) (λ f visited. by_desk new f draws visited)
+
+  -- memory was wanting for the visit that is known
+  pub may_lack : {F : Type 0} (r : Result (Found V E) F)
+      → OnErr r ((h : Handed K V) → VisitLacks eq h old known) → OnErr r (VisitLacks eq handed old made)
+  may_lack r lacks = subst (λ v. OnErr r (VisitLacks eq handed old v)) (sym is) (on_err_weaker r (λ any. any handed) lacks)
+
+  -- and by this that was handed
+  pub may_lack_handed : {F : Type 0} (r : Result (Found V E) F)
+      → OnErr r (VisitLacks eq handed old known) → OnErr r (VisitLacks eq handed old made)
+  may_lack_handed r lacks = subst (λ v. OnErr r (VisitLacks eq handed old v)) (sym is) lacks
+
+  -- any such visit may want some
+  pub may_want : {F : Type 0} (r : Result (Found V E) F) → ((w : DeskPart K V E) → VisitNeedsMemory w known) → OnErr r (VisitLacks eq handed old made)
+  may_want r needs = subst (λ v. OnErr r (VisitLacks eq handed old v)) (sym is) (by r) where
+    by : {F : Type 0} (q : Result (Found V E) F) → OnErr q (VisitLacks eq handed old known)
+    by (Ok f) = tt
+    by (Err e) = λ w h so. needs w

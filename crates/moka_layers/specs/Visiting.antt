@@ -15,7 +15,7 @@ use Rattle.moka_desk.specs.StandsFor.{StandsFor}
 use Rattle.moka_desk.specs.Waits.{lock_line, settlement_line, turn_line}
 use Rattle.moka_desk.specs.declared.state.Desk.{Desk}
 use Rattle.moka_init.specs.Forms.{IsFoundBy}
-use Rattle.moka_init.specs.Grounds.{VisitNeedsMemory}
+use Rattle.moka_layers.specs.Needing.{VisitNeedsMemory}
 use Rattle.moka_layers.specs.Handing.{IsHanded}
 
 module _ {K V : Type 0} where
@@ -61,7 +61,9 @@ module _ {K V E S H : Type 0} {same : PartialEq.Ghosts K} {hash : Hash.Ghosts K}
       Desk K V E S H same hash build hasher → Type 0
   DeskStays eq old new = (w : DeskPart K V E) → StandsFor eq old w → StandsFor eq new w
 
-  -- memory was wanting for the visit: in each state that the desk stood for it may be
-  abbrev pub VisitLacks : (K → K → Bool) → Desk K V E S H same hash build hasher → Visit K V E →
-      Type 0
-  VisitLacks eq old visit = (w : DeskPart K V E) → StandsFor eq old w → VisitNeedsMemory w visit
+  -- memory was wanting for the visit: in each state that the desk stood for, and that was handed
+  -- this, it may be
+  abbrev pub VisitLacks : (K → K → Bool) → Handed K V → Desk K V E S H same hash build hasher →
+      Visit K V E → Type 0
+  VisitLacks eq handed old visit =
+      (w : DeskPart K V E) → StandsFor eq old w → IsHanded handed w → VisitNeedsMemory w visit

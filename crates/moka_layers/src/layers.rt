@@ -42,8 +42,9 @@ impl<
     ghost use Rattle.moka_hist.specs.State.{World};
     ghost use Rattle.moka_hist.specs.Step.{Access, On_table, On_desk};
     ghost use Rattle.moka_hist.specs.declared.tables.TableOp.{TableOp};
-    ghost use Rattle.moka_init.specs.Grounds.{Accesses, Lacks, OfWanted, VisitNeedsMemory};
-    ghost use Rattle.moka_init.specs.Grounds.{NeedsMemory, still_begun};
+    ghost use Rattle.moka_init.specs.Grounds.{Accesses, Lacks, OfWanted};
+    ghost use Rattle.moka_init.specs.Grounds.{still_begun};
+    ghost use Rattle.moka_layers.specs.Needing.{NeedsMemory, VisitNeedsMemory};
     ghost use Rattle.moka_layers.specs.Layers.{GroundIs, Allows, Serves, LayersStay, account_of};
     ghost use Rattle.moka_layers.specs.Layers.{Decides, handed_for, most_on, operation_in};
     ghost use Rattle.moka_layers.specs.Visiting.{handed_out};
@@ -263,7 +264,8 @@ impl<
     S: BuildHasher + Drop,
 > Ground<K, V, E> for Layers<K, V, E, T, C, Q, S> {
     ghost use Rattle.moka_hist.specs.State.{World};
-    ghost use Rattle.moka_init.specs.Grounds.{Accesses, Gives, Lacks, NeedsMemory, OfWanted};
+    ghost use Rattle.moka_init.specs.Grounds.{Accesses, Gives, Lacks, OfWanted};
+    ghost use Rattle.moka_layers.specs.Needing.{NeedsMemory};
     ghost use Rattle.moka_layers.specs.Layers.{GroundIs, Allows, account_of};
 
     ghost stands = { λ l w. GroundIs K.eq T.Table Q.Tests l w };

@@ -42,7 +42,8 @@ pub(crate) fn make_visit<
     ensures woken { IfOk result (λ found. woken.new ≡ handed_out desk.old visit woken.old) }
     ensures err { OnErr result (DeskStays K.eq desk.old desk.new) }
     ensures err_ids { OnErr result (ids_of ids.new ≡ ids_of ids.old) }
-    ensures err_needs { OnErr result (VisitLacks K.eq desk.old visit) }
+    ensures err_needs { OnErr result
+        (VisitLacks K.eq (handed_by Q.Tests tests.now (ids_of ids.old)) desk.old visit) }
     ensures kept { KeepsAsBefore desk.old desk.new }
 {
     match visit {
@@ -115,6 +116,9 @@ fn judge<K: Eq + Hash + Exact, V: Exact, E: Exact, Q: Tests<K, V>, S: BuildHashe
         (Visit.Judge replace key stored) found desk.new
         (handed_by Q.Tests tests.now ids)) }
     ensures err { OnErr result (DeskStays K.eq desk.old desk.new) }
+    ensures err_needs { OnErr result ((ids : ℕ → ℕ)
+        → VisitLacks K.eq (handed_by Q.Tests tests.now ids) desk.old
+        (Visit.Judge replace key stored)) }
     ensures kept { KeepsAsBefore desk.old desk.new }
 {
     let hit = desk.hits(tests, &key, &stored);
@@ -179,7 +183,8 @@ fn register<K: Eq + Hash + Exact, V: Exact, E: Exact, S: BuildHasher + Drop>(
         found desk.new (record handed { ids = ids_of ids.new })) }
     ensures err { OnErr result (DeskStays K.eq desk.old desk.new) }
     ensures err_ids { OnErr result (ids_of ids.new ≡ ids_of ids.old) }
-    ensures err_needs { OnErr result (VisitLacks K.eq desk.old (Visit.Register test)) }
+    ensures err_needs { OnErr result ((handed : Handed K V)
+        → VisitLacks K.eq handed desk.old (Visit.Register test)) }
     ensures kept { KeepsAsBefore desk.old desk.new }
 {
     match desk.register(test, ids) {
@@ -271,6 +276,8 @@ fn own_alone<K: Eq + Hash + Exact, V: Exact, E: Exact, S: BuildHasher + Drop>(
     ensures ok { IfOk result (λ found.
         VisitIs K.eq desk.old (Visit.OwnAlone call key) found desk.new) }
     ensures err { OnErr result (DeskStays K.eq desk.old desk.new) }
+    ensures err_needs { OnErr result ((handed : Handed K V)
+        → VisitLacks K.eq handed desk.old (Visit.OwnAlone call key)) }
     ensures kept { KeepsAsBefore desk.old desk.new }
 {
     let owned = desk.owned(call, key)?;
@@ -286,6 +293,8 @@ fn read_settled<K: Eq + Hash + Exact, V: Exact, E: Exact, S: BuildHasher + Drop>
     ensures ok { IfOk result (λ found.
         VisitIs K.eq desk.old (Visit.ReadSettled call) found desk.new) }
     ensures err { OnErr result (DeskStays K.eq desk.old desk.new) }
+    ensures err_needs { OnErr result ((handed : Handed K V)
+        → VisitLacks K.eq handed desk.old (Visit.ReadSettled call)) }
     ensures kept { KeepsAsBefore desk.old desk.new }
 {
     let settled = desk.read_settled(call)?;
@@ -359,7 +368,8 @@ fn notice_ended<K: Eq + Hash + Exact, V: Exact, E: Exact, S: BuildHasher + Drop>
     ensures ok { IfOk result (λ found.
         VisitIs K.eq desk.old (Visit.NoticeEnded call notice) found desk.new) }
     ensures err { OnErr result (DeskStays K.eq desk.old desk.new) }
-    ensures err_needs { OnErr result (VisitLacks K.eq desk.old (Visit.NoticeEnded call notice)) }
+    ensures err_needs { OnErr result ((handed : Handed K V)
+        → VisitLacks K.eq handed desk.old (Visit.NoticeEnded call notice)) }
     ensures kept { KeepsAsBefore desk.old desk.new }
 {
     let ended = desk.notice_ended(call, notice)?;
@@ -429,7 +439,8 @@ fn take_turn<K: Eq + Hash + Exact, V: Exact, E: Exact, S: BuildHasher + Drop>(
     ensures ok { IfOk result (λ found.
         VisitIs K.eq desk.old (Visit.TakeTurn call) found desk.new) }
     ensures err { OnErr result (DeskStays K.eq desk.old desk.new) }
-    ensures err_needs { OnErr result (VisitLacks K.eq desk.old (Visit.TakeTurn call)) }
+    ensures err_needs { OnErr result ((handed : Handed K V)
+        → VisitLacks K.eq handed desk.old (Visit.TakeTurn call)) }
     ensures kept { KeepsAsBefore desk.old desk.new }
 {
     let taken = desk.take_turn(call)?;

@@ -17,7 +17,8 @@ use Rattle.moka_hist.specs.declared.record_tests.Tests as Tests
 use Rattle.moka_desk.specs.History.{keeps_history}
 use Rattle.moka_init.specs.declared.flow.Flow.{Flow}
 use Rattle.moka_init.specs.FlowPlan.{call_of, IsLive}
-use Rattle.moka_init.specs.Grounds.{HasBegun, IsOn, MayWant, access_at, NeedsMemory}
+use Rattle.moka_init.specs.Grounds.{HasBegun, IsOn, MayWant, access_at}
+use Rattle.moka_layers.specs.Needing.{StepNeedsMemory}
 use Rattle.moka_layers.specs.Layers.{BegunIs, GroundIs, WorldIs, account_of, operation_in}
 use Rattle.moka_machine.specs.Calls.{running_at, place_at, IsUsed}
 use Rattle.moka_machine.specs.TheTable.{TheTable, the_table}
@@ -167,4 +168,4 @@ module _ {K V E T : Type 0} {same : PartialEq.Ghosts K} {hash : Hash.Ghosts K} w
       → Without eq q old n others w → IsSafe eq n (call_of flow) w
       → (d : Call K V E) × (after : World K V E) × MovesOn eq made n (call_of flow) w d after
       × MachineIs eq q new (record { world = after; calls = put_at others n (Some d) })
-      × NeedsMemory after (access_of n d))
+      × StepNeedsMemory after (access_of n d))

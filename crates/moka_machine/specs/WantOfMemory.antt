@@ -8,7 +8,7 @@ use Rattle.moka_hist.specs.declared.events.Op.{Op}
 use Rattle.moka_hist.specs.declared.events.Op.TheVariants as op
 use Rattle.moka_hist.specs.declared.events.Told.{Told}
 use Rattle.moka_hist.specs.declared.events.Told.TheVariants as told
-use Rattle.moka_init.specs.Grounds.{NeedsMemory}
+use Rattle.moka_layers.specs.Needing.{StepNeedsMemory}
 
 -- memory may be wanting to tell a compute this: a value is copied
 abbrev pub OpNeedsMemory : {V : Type 0} → Op V → Type 0
@@ -29,12 +29,13 @@ module _ {V E : Type 0} where
 module _ {K V E : Type 0} where
   -- the call is live, and memory may be wanting for the access at which it stands
   abbrev pub CallNeedsMemory : State K V E → ℕ → Type 0
-  CallNeedsMemory s n = MatchOption (s.calls n) ⊥ (λ c. NeedsMemory s.world (access_of n c))
+  CallNeedsMemory s n = MatchOption (s.calls n) ⊥ (λ c. StepNeedsMemory s.world (access_of n c))
 
   -- Memory may be wanting in such an event in this state. In a step or a poll it may only where the
   -- call stands at an access that needs some: none is needed to take up what is owed or told, to
-  -- free a lock, to post a write and to apply the log, nor to take a turn that is free or to hear
-  -- of a notice that has ended. Nor is any needed to tell an answer that is handed in.
+  -- free a lock, to post a write and to apply the log, nor to take a turn that is free, to hear of a
+  -- notice that has ended, or to read how an owner ended that left neither a value nor an error, or
+  -- that it has not ended. Nor is any needed to tell an answer that is handed in.
   abbrev pub MayStopIn : State K V E → Event K V E → Type 0
   MayStopIn s (event.At moment) = ⊥
   MayStopIn s (event.Start start) = Unit {0}

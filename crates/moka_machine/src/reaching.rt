@@ -13,7 +13,8 @@ use std::hash::Hash;
 impl<K: Eq + Hash + Exact, V: Exact, E: Exact, T: Tests<K, V> + Drop> Ground<K, V, E>
     for Machine<K, V, E, T> {
     ghost use Rattle.moka_hist.specs.State.{World};
-    ghost use Rattle.moka_init.specs.Grounds.{Accesses, Gives, Lacks, NeedsMemory, OfWanted};
+    ghost use Rattle.moka_init.specs.Grounds.{Accesses, Gives, Lacks, OfWanted};
+    ghost use Rattle.moka_layers.specs.Needing.{NeedsMemory};
     ghost use Rattle.moka_layers.specs.Layers.{account_of};
     ghost use Rattle.moka_machine.specs.Machine.{Reaches, AllowsEvent};
     ghost use Rattle.moka_machine.specs.TheTable.{the_table};

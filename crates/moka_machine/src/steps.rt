@@ -16,7 +16,8 @@ impl<K: Eq + Hash + Exact, V: Exact, E: Exact, T: Tests<K, V> + Drop> Machine<K,
     ghost use Rattle.moka_hist.specs.declared.events.Event.{Event};
     ghost use Rattle.moka_hist.specs.Step.{May, IsSafe};
     ghost use Rattle.moka_init.specs.FlowPlan.{Leaves, call_of, left_in};
-    ghost use Rattle.moka_init.specs.Grounds.{IsOn, access_at, NeedsMemory};
+    ghost use Rattle.moka_init.specs.Grounds.{IsOn, access_at};
+    ghost use Rattle.moka_layers.specs.Needing.{StepNeedsMemory};
     ghost use Rattle.moka_layers.specs.Layers.{account_of};
     ghost use Rattle.moka_machine.specs.Calls.{HasPlace};
     ghost use Rattle.moka_machine.specs.Machine.{MachineIs, Reaches, Without, TakenOut, IsOut};
@@ -196,7 +197,7 @@ impl<K: Eq + Hash + Exact, V: Exact, E: Exact, T: Tests<K, V> + Drop> Machine<K,
         ensures steps { IfOk result (λ r. StepOut K.eq T.Tests self.old call flow.value r self.new) }
         ensures err { OnErr result (KeepsOut K.eq T.Tests self.old call flow.value self.new) }
         ensures err_needs { OnErr result ((w : World K V E) → Reaches K.eq T.Tests self.old w
-            → May w (access_at flow.value) → NeedsMemory w (access_at flow.value)) }
+            → May w (access_at flow.value) → StepNeedsMemory w (access_at flow.value)) }
     {
         match step(&mut *flow, self) {
             Ok(turn) => Ok(self.after_step(call, flow, turn)),

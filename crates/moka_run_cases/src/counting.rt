@@ -31,7 +31,8 @@ struct Counting<K: Eq + Hash, V, E, T> {
 impl<K: Eq + Hash + Exact, V: Exact, E: Exact, T: Tests<K, V> + Drop> Ground<K, V, E>
     for Counting<K, V, E, T> {
     ghost use Rattle.moka_hist.specs.State.{World};
-    ghost use Rattle.moka_init.specs.Grounds.{Accesses, Gives, Lacks, NeedsMemory, OfWanted};
+    ghost use Rattle.moka_init.specs.Grounds.{Accesses, Gives, Lacks, OfWanted};
+    ghost use Rattle.moka_layers.specs.Needing.{NeedsMemory};
     ghost use Rattle.moka_layers.specs.Layers.{account_of};
     ghost use Rattle.moka_machine.specs.Machine.{Reaches, AllowsEvent};
     ghost use Rattle.moka_machine.specs.TheTable.{the_table};

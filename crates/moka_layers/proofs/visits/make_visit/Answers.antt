@@ -1,11 +1,11 @@
 -- The desk makes what the reference's visit makes.
 use Rattle.std.proofs.Common.{refl}
-use Rattle.std.proofs.lemmas.Result.{IfOk-weaker}
+use Rattle.std.proofs.lemmas.Result.{IfOk-weaker, on_err_weaker}
 use Rattle.moka_hist.specs.declared.visits.Found.TheVariants as found
 use Rattle.moka_hist.specs.declared.visits.Visit.TheVariants as visit
 use Rattle.moka_layers.specs.Handing.{handed_by, ids_of}
 use Rattle.moka_layers.specs.Visiting.{VisitIs}
-use Rattle.moka_layers.proofs.Visited.{by_desk, by_handed, form_by, may_be_handed, may_have_form, may_make}
+use Rattle.moka_layers.proofs.Visited.{by_desk, by_handed, form_by, may_be_handed, may_have_form, may_lack, may_lack_handed, may_make, may_want}
 use Rattle.moka_layers.proofs.visits.make_visit.Goals as goal
 
 pub returns-in-Clock-clause-ok : goal.returns-in-Clock-clause-ok
@@ -143,3 +143,41 @@ pub returns-in-Strike-clause-form : goal.returns-in-Strike-clause-form
 returns-in-Strike-clause-form g c =
     let handed = handed_by g.Q.Tests c.args.tests.now (ids_of c.args.ids.now) in
     form_by g.K.PartialEq.eq c.args.desk.now _ _ c.in-Strike.is handed c.strike.new.desk c.strike.result handed (c.strike.ensures.visit (ids_of c.args.ids.now))
+
+pub returns-in-NoticeEnded-clause-err_needs : goal.returns-in-NoticeEnded-clause-err_needs
+returns-in-NoticeEnded-clause-err_needs g c = may_lack g.K.PartialEq.eq c.args.desk.now _ _ c.in-NoticeEnded.is (handed_by g.Q.Tests c.args.tests.now (ids_of c.args.ids.now)) c.notice_ended.result c.notice_ended.ensures.err_needs
+
+pub returns-in-OwnAlone-clause-err_needs : goal.returns-in-OwnAlone-clause-err_needs
+returns-in-OwnAlone-clause-err_needs g c = may_lack g.K.PartialEq.eq c.args.desk.now _ _ c.in-OwnAlone.is (handed_by g.Q.Tests c.args.tests.now (ids_of c.args.ids.now)) c.own_alone.result c.own_alone.ensures.err_needs
+
+pub returns-in-ReadSettled-clause-err_needs : goal.returns-in-ReadSettled-clause-err_needs
+returns-in-ReadSettled-clause-err_needs g c = may_lack g.K.PartialEq.eq c.args.desk.now _ _ c.in-ReadSettled.is (handed_by g.Q.Tests c.args.tests.now (ids_of c.args.ids.now)) c.read_settled.result c.read_settled.ensures.err_needs
+
+pub returns-in-TakeTurn-clause-err_needs : goal.returns-in-TakeTurn-clause-err_needs
+returns-in-TakeTurn-clause-err_needs g c = may_lack g.K.PartialEq.eq c.args.desk.now _ _ c.in-TakeTurn.is (handed_by g.Q.Tests c.args.tests.now (ids_of c.args.ids.now)) c.take_turn.result c.take_turn.ensures.err_needs
+
+pub returns-in-Register-clause-err_needs : goal.returns-in-Register-clause-err_needs
+returns-in-Register-clause-err_needs g c = may_lack g.K.PartialEq.eq c.args.desk.now _ _ c.in-Register.is (handed_by g.Q.Tests c.args.tests.now (ids_of c.args.ids.now)) c.register.result c.register.ensures.err_needs
+
+pub returns-in-Judge-clause-err_needs : goal.returns-in-Judge-clause-err_needs
+returns-in-Judge-clause-err_needs g c =
+    may_lack_handed g.K.PartialEq.eq c.args.desk.now _ _ c.in-Judge.is (handed_by g.Q.Tests c.args.tests.now (ids_of c.args.ids.now)) c.judge.result
+    (on_err_weaker c.judge.result (λ any. any (ids_of c.args.ids.now)) c.judge.ensures.err_needs)
+
+pub returns-in-LockKey-clause-err_needs : goal.returns-in-LockKey-clause-err_needs
+returns-in-LockKey-clause-err_needs g c = may_want g.K.PartialEq.eq c.args.desk.now _ _ c.in-LockKey.is (handed_by g.Q.Tests c.args.tests.now (ids_of c.args.ids.now)) c.lock_key.result (λ w. tt)
+
+pub returns-in-OpenNotice-clause-err_needs : goal.returns-in-OpenNotice-clause-err_needs
+returns-in-OpenNotice-clause-err_needs g c = may_want g.K.PartialEq.eq c.args.desk.now _ _ c.in-OpenNotice.is (handed_by g.Q.Tests c.args.tests.now (ids_of c.args.ids.now)) c.open_notice.result (λ w. tt)
+
+pub returns-in-StampMoment-clause-err_needs : goal.returns-in-StampMoment-clause-err_needs
+returns-in-StampMoment-clause-err_needs g c = may_want g.K.PartialEq.eq c.args.desk.now _ _ c.in-StampMoment.is (handed_by g.Q.Tests c.args.tests.now (ids_of c.args.ids.now)) c.stamp_moment.result (λ w. tt)
+
+pub returns-in-WaitOrOwn-clause-err_needs : goal.returns-in-WaitOrOwn-clause-err_needs
+returns-in-WaitOrOwn-clause-err_needs g c = may_want g.K.PartialEq.eq c.args.desk.now _ _ c.in-WaitOrOwn.is (handed_by g.Q.Tests c.args.tests.now (ids_of c.args.ids.now)) c.wait_or_own.result (λ w. tt)
+
+pub returns-in-OpenAsk-clause-err_needs : goal.returns-in-OpenAsk-clause-err_needs
+returns-in-OpenAsk-clause-err_needs g c = may_want g.K.PartialEq.eq c.args.desk.now _ _ c.in-OpenAsk.is (handed_by g.Q.Tests c.args.tests.now (ids_of c.args.ids.now)) c.open_ask.result (λ w. tt)
+
+pub returns-in-Candidates-clause-err_needs : goal.returns-in-Candidates-clause-err_needs
+returns-in-Candidates-clause-err_needs g c = may_want g.K.PartialEq.eq c.args.desk.now _ _ c.in-Candidates.is (handed_by g.Q.Tests c.args.tests.now (ids_of c.args.ids.now)) c.candidates.result (λ w. tt)

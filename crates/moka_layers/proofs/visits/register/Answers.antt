@@ -105,5 +105,5 @@ returns-in-Err-clause-err_ids g c =
 
 pub returns-in-Err-clause-err_needs : goal.returns-in-Err-clause-err_needs
 returns-in-Err-clause-err_needs g c =
-    wanted_so c.in-Err.why c.unregistered.result (VisitLacks g.K.PartialEq.eq c.args.desk.now (visit.Register c.args.test)) c.unregistered.ensures (λ is w h.
+    wanted_so c.in-Err.why c.unregistered.result ((handed : Handed g.row.K.Denot g.row.V.Denot) → VisitLacks g.K.PartialEq.eq handed c.args.desk.now (visit.Register c.args.test)) c.unregistered.ensures (λ is handed w h so.
     ap (λ r. r.closures) (sym h.rules) ∙ on_memory c.in-Err.why (c.args.desk.now.rules.closures ≡ true) is c.in-Err.ensures.needs)

@@ -2,8 +2,8 @@ use Rattle.std.proofs.Common.{◌≡◌, ℕ, ◌==◌, cond, Some, sym, ap, ◌
 use Rattle.std.specs.HashMap.{get}
 use Rattle.moka_sync.specs.Waiting.{waits}
 use Rattle.moka_desk.specs.Lines.{line_at}
-use Rattle.moka_desk.proofs.Listed.{listed, listed_is, listed_placed}
-use Rattle.moka_desk.proofs.Woken.{out_listed}
+use Rattle.moka_desk.proofs.Listed.{listed, listed_already, listed_is, listed_placed}
+use Rattle.moka_desk.proofs.Woken.{out_already, out_listed}
 use Rattle.moka_desk.proofs.lines.Lines.wait.Goals as goal
 
 lines_then : (c : goal.After-put) → (n : ℕ) → line_at c.move_off.new.lists n ≡ listed (line_at c.args.self.now.lists) (get nat_eq c.args.self.now.places) c.args.self.now.placed c.args.number c.args.call n
@@ -42,3 +42,13 @@ returns-clause-back c =
     c.in_ok-add_to.ensures.ok c.move_off.ensures)
     (λ k. c.put.ensures.updates.0 k
     ∙ ap (λ o. cond (call == k) (Some number) o) (c.reserve.ensures.entries.2 k))
+
+pub returns-then-is_listed-clause-ok : goal.returns-then-is_listed-clause-ok
+returns-then-is_listed-clause-ok c = λ n.
+    let s = c.args.self.now in
+    listed_already (line_at s.lists) (get nat_eq s.places) s.placed c.args.number c.args.call (sym c.is_listed.ensures ∙ c.if-is_listed.true) n
+
+pub returns-then-is_listed-clause-back : goal.returns-then-is_listed-clause-back
+returns-then-is_listed-clause-back c = λ k.
+    let s = c.args.self.now in
+    out_already (line_at s.lists) (get nat_eq s.places) s.placed c.args.number c.args.call (sym c.is_listed.ensures ∙ c.if-is_listed.true) k

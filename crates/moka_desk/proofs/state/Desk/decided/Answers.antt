@@ -16,4 +16,5 @@ returns-clause-makes g c = λ w h. record {
   locks = h.locks;
   notices = h.notices;
   asks = h.asks;
+  listed = h.listed;
 }

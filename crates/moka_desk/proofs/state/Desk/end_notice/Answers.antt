@@ -16,4 +16,5 @@ returns-clause-makes g c = λ w h may. record {
   locks = h.locks;
   notices = c.end.ensures.makes (notice_part w) h.notices may;
   asks = h.asks;
+  listed = h.listed;
 }

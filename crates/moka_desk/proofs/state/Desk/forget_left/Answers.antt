@@ -26,4 +26,5 @@ returns-clause-makes g c = λ w h.
       locks = h.locks;
       notices = h.notices;
       asks = h.asks;
+      listed = h.listed;
     }

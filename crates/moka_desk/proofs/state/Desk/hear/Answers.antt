@@ -25,4 +25,5 @@ returns-clause-makes g c = λ w h.
       locks = h.locks;
       notices = c.end.ensures.makes (notice_part w) h.notices (running_may_end (w.notices number) runs);
       asks = h.asks;
+      listed = h.listed;
     }

@@ -11,6 +11,7 @@ use Rattle.moka_desk.specs.Writes.{write_part, WritesAre}
 use Rattle.moka_desk.specs.Waits.{lock_line, settlement_line}
 use Rattle.moka_desk.proofs.Allowed.{leaves_its_own}
 use Rattle.moka_desk.proofs.Misses.{answers_miss, come_listed, left_listed, none_else, none_still}
+use Rattle.moka_desk.proofs.Waiters.{leaves_listed, more_readers, put_none, settles_listed, some_reader}
 use Rattle.moka_desk.proofs.state.Desk.leave.Goals as goal
 
 pub leave-requires : goal.leave-requires
@@ -23,6 +24,10 @@ leave-requires g c =
 
 pub returns-clause-makes : goal.returns-clause-makes
 returns-clause-makes g c = λ w h may.
+    let eq = g.K.PartialEq.eq in
+    let self = c.args.self.now in
+    let call = c.args.call in
+    let line : ℕ → List ℕ = settlement_line self in
     let kept = subst (MayLeaveWith (w.holding c.args.call) c.args.call) (sym c.owed_as-owed.ensures.same) may in
     record {
       rules = h.rules;
@@ -39,6 +44,10 @@ returns-clause-makes g c = λ w h may.
       locks = c.free.ensures (lock_part w) h.locks;
       notices = h.notices;
       asks = c.leave-3.ensures.makes (ask_part w) h.asks;
+      listed = settles_listed (λ n. without call (line n)) (put_at w.joined call None) (settled_without w call) w.owning
+          (leaves_listed line w.joined w.settled w.owning h.listed call w.readers (λ n. without call (line n)) (more_readers eq self.loads w h.loads) (λ n. refl))
+          call settled.Aborted (nat_lt 0 (w.readers call)) _
+          (λ k mine. some_reader eq self.loads w h.loads k call (put_none w.joined call k call mine)) c.leave-4.ensures.settlements;
     }
 
 pub returns-clause-misses : goal.returns-clause-misses

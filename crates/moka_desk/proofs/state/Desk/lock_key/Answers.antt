@@ -1,10 +1,17 @@
-use Rattle.std.proofs.Common.{◌≡◌, ◌==◌, true, false, Some, is_some, sym, ap, subst, ◌∙◌}
+use Rattle.std.proofs.Common.{◌≡◌, ◌==◌, true, false, Some, None, is_some, sym, ap, subst, ◌∙◌}
+use Rattle.std.specs.Option.{option_map_or}
+use Rattle.moka_sync.specs.Waiting.{waits}
+use Rattle.moka_hist.proofs.Owners.{is_none_of}
+use Rattle.moka_desk.specs.Locks.{holder_of, lock_part}
+use Rattle.moka_desk.specs.Waits.{lock_line}
+use Rattle.moka_desk.proofs.Outcomes.{on_err}
+use Rattle.moka_desk.proofs.Waiters.{nobody}
 use Rattle.moka_hist.specs.Visits.{is_unlocked_for, locked_by}
 use Rattle.moka_hist.specs.declared.visits.Found.TheVariants as found
 use Rattle.moka_desk.specs.StandsFor.{StandsFor}
 use Rattle.moka_desk.specs.ListedMiss.{ListedMiss}
 use Rattle.moka_desk.proofs.Allowed.{held_by_another}
-use Rattle.moka_desk.proofs.Misses.{by_cases, there, apart, some_still, left_listed, wait_listed}
+use Rattle.moka_desk.proofs.Misses.{by_cases, there, apart, not_this, some_still, left_listed, wait_listed}
 use Rattle.moka_desk.proofs.state.Desk.lock_key.Goals as goal
 
 pub returns-in-Some-clause-finds : goal.returns-in-Some-clause-finds
@@ -30,6 +37,7 @@ returns-in-Some-clause-makes g c = λ w h may.
       locks = h.locks;
       notices = h.notices;
       asks = h.asks;
+      listed = h.listed;
     })
 
 pub returns-in-Some-clause-misses : goal.returns-in-Some-clause-misses
@@ -48,6 +56,31 @@ returns-in-Some-clause-misses g c = λ w h may m.
       answers = m.answers;
       locks = wait_listed _ _ _ _ holder call c.in_ok-wait.ensures.ok (locked, apart w.locked holder call locked may) (λ n k is. is) m.locks;
       notices = m.notices;
+    })
+
+pub returns-clause-makes : goal.returns-clause-makes
+returns-clause-makes g c = λ w h may.
+    let eq = g.K.PartialEq.eq in
+    let self = c.args.self.now in
+    let call = c.args.call in
+    let key = c.args.key.now in
+    let free : w.locks key ≡ None = sym (h.locks.holders key) ∙ sym c.holder.ensures ∙ c.in_default.is in
+    let unlocked : is_unlocked_for w call key ≡ true = ap (λ o. option_map_or (λ holder. holder == call) o true) free in
+    subst (λ b. StandsFor eq (record self { locks = c.lock.new.self; waits = record self.waits { locks = c.leave.new.self } }) (locked_by eq w call key b)) (sym unlocked) (record {
+      rules = h.rules;
+      clock = h.clock;
+      valid_after = h.valid_after;
+      predicates = h.predicates;
+      accessed = h.accessed;
+      turn = h.turn;
+      published = h.published;
+      last = h.last;
+      writes = h.writes;
+      loads = h.loads;
+      locks = c.in_ok-lock.ensures.ok (lock_part w) h.locks free (is_none_of (w.locked call) may);
+      notices = h.notices;
+      asks = h.asks;
+      listed = h.listed;
     })
 
 pub returns-clause-misses : goal.returns-clause-misses
@@ -72,3 +105,13 @@ returns-clause-misses g c = λ w h may m.
       notices = m.notices;
     })
     (is_unlocked_for w call key)
+
+pub returns-in_err-wait-clause-needs_place : goal.returns-in_err-wait-clause-needs_place
+returns-in_err-wait-clause-needs_place g c = on_err c.from_residual.result (λ holder is.
+    let self = c.args.self.now in
+    subst (λ n. waits c.args.call (lock_line self n) ≡ false)
+    (not_this (holder_of g.K.PartialEq.eq self.locks c.args.key.now) c.in-Some.holder holder (sym c.holder.ensures ∙ c.in-Some.is) is) c.in_err-wait.ensures.needs)
+
+pub returns-in_err-lock-clause-needs_place : goal.returns-in_err-lock-clause-needs_place
+returns-in_err-lock-clause-needs_place g c = on_err c.from_residual-in_err-lock.result (λ holder is.
+    absurd (nobody holder (sym c.in_default.is ∙ c.holder.ensures ∙ is)))

@@ -1,6 +1,7 @@
 use Rattle.std.proofs.Common.{None, Bool, true, false, ◌≡◌, ◌&&◌, ◌||◌, refl, ap, ◌∙◌}
 use Rattle.moka_desk.specs.Woken.{is_told}
 use Rattle.moka_desk.proofs.Misses.{answers_miss, nobody_listed, nothing_asked}
+use Rattle.moka_desk.proofs.Waiters.{nobody}
 use Rattle.moka_desk.proofs.state.Desk.made.Goals as goal
 
 -- three that are alike hold together exactly where one does
@@ -23,6 +24,7 @@ returns-clause-stands g c = λ tests. record {
   locks = c.new-5.ensures;
   notices = c.new-6.ensures.none;
   asks = c.new-7.ensures.none;
+  listed = λ k n is none. absurd (nobody n is);
 }
 
 pub returns-clause-misses : goal.returns-clause-misses

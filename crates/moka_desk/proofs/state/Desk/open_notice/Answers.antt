@@ -19,6 +19,7 @@ returns-in_err-asked-clause-err g c = on_err c.from_residual.result (λ w h. rec
   locks = h.locks;
   notices = c.in_err-asked.ensures.err (notice_part w) h.notices;
   asks = h.asks;
+  listed = h.listed;
 })
 
 pub returns-clause-makes : goal.returns-clause-makes
@@ -36,4 +37,5 @@ returns-clause-makes g c = λ w h may. record {
   locks = h.locks;
   notices = rw (← c.cause_of-cause.ensures w h) (c.in_ok-asked.ensures.ok (notice_part w) h.notices (is_none_of (w.notices c.args.call) may));
   asks = h.asks;
+  listed = h.listed;
 }

@@ -17,4 +17,5 @@ returns-clause-makes g c = λ w h may. record {
   locks = h.locks;
   notices = h.notices;
   asks = h.asks;
+  listed = h.listed;
 }

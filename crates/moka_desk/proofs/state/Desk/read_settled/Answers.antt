@@ -1,28 +1,101 @@
-use Rattle.std.proofs.Common.{◌≡◌, ◌==◌, ◌&&◌, false, cond, Some, None, is_some, nat_eq, sym, ap, subst, ◌∙◌}
+use Rattle.std.proofs.Common.{◌≡◌, ◌==◌, ◌&&◌, true, false, cond, None, is_some, nat_eq, refl, sym, ap, subst, unwrap_or, ◌∙◌}
 use Rattle.std.specs.HashMap.{get}
-use Rattle.std.specs.Option.{option_and_then}
 use Rattle.moka_hist.specs.Finite.{put_at}
 use Rattle.moka_hist.specs.Visits.{is_reader_of, readers_without, settled_without, settlement_for}
+use Rattle.moka_hist.specs.declared.visits.Found.TheVariants as found
+use Rattle.moka_hist.specs.declared.visits.Settled.TheVariants as settled
+use Rattle.moka_hist.proofs.Owners.{is_none_of}
+use Rattle.moka_desk.specs.Lines.{line_at}
 use Rattle.moka_desk.specs.ListedMiss.{ListedMiss}
-use Rattle.moka_desk.proofs.Misses.{by_cases, unsettled_owner, none_still, left_listed, wait_listed}
+use Rattle.moka_desk.specs.Loads.{load_part, LoadsAre}
+use Rattle.moka_desk.specs.StandsFor.{StandsFor}
+use Rattle.moka_desk.specs.Waits.{awaited, settlement_line}
+use Rattle.moka_desk.proofs.Listed.{listed_already}
+use Rattle.moka_desk.proofs.Misses.{by_cases, unsettled_owner, none_still, left_listed}
+use Rattle.moka_desk.proofs.Waiters.{has_ended, leaves_listed, more_readers, one_awaited, unread}
+use Rattle.moka_desk.proofs.Woken.{out_already}
 use Rattle.moka_desk.proofs.state.Desk.read_settled.Goals as goal
 
-pub returns-in-Some-clause-misses : goal.returns-in-Some-clause-misses
-returns-in-Some-clause-misses g c = λ w h may m.
+-- ---- the owner has not ended
+
+pub returns-then-is_some-clause-finds : goal.returns-then-is_some-clause-finds
+returns-then-is_some-clause-finds g c = λ w h may.
+    let none = unread g.K.PartialEq.eq c.args.self.now.loads w h.loads c.args.call (ap is_some (sym c.awaited.ensures) ∙ sym c.is_some.ensures ∙ c.if-is_some.true) in
+    ap (λ o. found.ReadSettled (unwrap_or o settled.NotYet)) (sym (is_none_of _ none))
+
+pub returns-then-is_some-clause-makes : goal.returns-then-is_some-clause-makes
+returns-then-is_some-clause-makes g c = λ w h may.
     let call = c.args.call in
+    let none = unread g.K.PartialEq.eq c.args.self.now.loads w h.loads call (ap is_some (sym c.awaited.ensures) ∙ sym c.is_some.ensures ∙ c.if-is_some.true) in
+    subst (λ b. StandsFor g.K.PartialEq.eq c.args.self.now (cond b (record w { joined = put_at w.joined call None; readers = readers_without w call; settled = settled_without w call }) w)) (sym none) h
+
+pub returns-then-is_some-clause-misses : goal.returns-then-is_some-clause-misses
+returns-then-is_some-clause-misses g c = λ w h may m.
+    let call = c.args.call in
+    let none = unread g.K.PartialEq.eq c.args.self.now.loads w h.loads call (ap is_some (sym c.awaited.ensures) ∙ sym c.is_some.ensures ∙ c.if-is_some.true) in
+    subst (λ b. ListedMiss c.args.self.now (cond b (record w { joined = put_at w.joined call None; readers = readers_without w call; settled = settled_without w call }) w)) (sym none) m
+
+pub returns-then-is_some-clause-reads : goal.returns-then-is_some-clause-reads
+returns-then-is_some-clause-reads g c = λ none.
+    absurd (no (sym (ap is_some (sym c.awaited.ensures) ∙ sym c.is_some.ensures ∙ c.if-is_some.true) ∙ ap is_some none)) where
+      no : true ≡ false → ⊥
+      no e = cc
+
+pub returns-then-is_some-clause-waits : goal.returns-then-is_some-clause-waits
+returns-then-is_some-clause-waits g c = λ owner is.
+    let w = c.requires.waits.0 in
+    let h = c.requires.waits.1 in
     let self = c.args.self.now in
-    let owner = c.in-Some.owner in
-    let found = unsettled_owner (get nat_eq self.loads.joined call) (λ n. get nat_eq self.loads.settled n) owner (sym c.awaited.ensures ∙ c.in-Some.is) in
-    let joined : w.joined call ≡ Some owner = sym (h.loads.joined call) ∙ found.0 in
-    let none : is_some (w.settled owner) ≡ false = ap is_some (sym (h.loads.settled owner)) ∙ found.1 in
-    let unread : is_some (settlement_for w call) ≡ false = ap (λ o. is_some (option_and_then w.settled o)) joined ∙ none in
-    let after = record self { waits = record self.waits { settlements = c.wait.new.self } } in
-    subst (λ b. ListedMiss after (cond b (record w { joined = put_at w.joined call None; readers = readers_without w call; settled = settled_without w call }) w)) (sym unread) (record {
-      turns = m.turns;
-      settlements = wait_listed _ _ _ _ owner call c.in_ok-wait.ensures.ok (joined, none) (λ n k is. is) m.settlements;
-      answers = m.answers;
-      locks = m.locks;
-      notices = m.notices;
+    let lines = self.waits.settlements in
+    let found = unsettled_owner (get nat_eq self.loads.joined c.args.call) (λ n. get nat_eq self.loads.settled n) owner is in
+    let on = h.listed c.args.call owner (sym (h.loads.joined c.args.call) ∙ found.0) (ap is_some (sym (h.loads.settled owner)) ∙ found.1) in
+    (listed_already (line_at lines.lists) (get nat_eq lines.places) lines.placed owner c.args.call on.1, refl, refl)
+
+pub returns-then-is_some-clause-back : goal.returns-then-is_some-clause-back
+returns-then-is_some-clause-back g c =
+    let w = c.requires.waits.0 in
+    let h = c.requires.waits.1 in
+    let self = c.args.self.now in
+    let lines = self.waits.settlements in
+    let owner = one_awaited (awaited self c.args.call) (ap is_some (sym c.awaited.ensures) ∙ sym c.is_some.ensures ∙ c.if-is_some.true) in
+    let found = unsettled_owner (get nat_eq self.loads.joined c.args.call) (λ n. get nat_eq self.loads.settled n) owner.0 owner.1 in
+    let on = h.listed c.args.call owner.0 (sym (h.loads.joined c.args.call) ∙ found.0) (ap is_some (sym (h.loads.settled owner.0)) ∙ found.1) in
+    record {
+      turns = λ k. refl;
+      settlements = out_already (line_at lines.lists) (get nat_eq lines.places) lines.placed owner.0 c.args.call on.1;
+      answers = λ k. refl;
+      locks = λ k. refl;
+      notices = λ k. refl;
+    }
+
+-- ---- it has
+
+pub returns-clause-makes : goal.returns-clause-makes
+returns-clause-makes g c = λ w h may.
+    let eq = g.K.PartialEq.eq in
+    let self = c.args.self.now in
+    let call = c.args.call in
+    let after = record self { loads = c.read.new.self; waits = record self.waits { settlements = c.leave.new.self } } in
+    let left = record w { joined = put_at w.joined call None; readers = readers_without w call; settled = settled_without w call } in
+    let ended : is_some (settlement_for w call) ≡ true =
+    has_ended eq self.loads w h.loads call may (ap is_some (sym c.awaited.ensures) ∙ sym c.is_some.ensures ∙ c.if-is_some.false) in
+    let are : LoadsAre eq c.read.new.self (load_part left) =
+    subst (λ b. LoadsAre eq c.read.new.self (load_part (cond b left w))) ended (c.in_ok-settlement.ensures.ok w h.loads) in
+    subst (λ b. StandsFor eq after (cond b left w)) (sym ended) (record {
+      rules = h.rules;
+      clock = h.clock;
+      valid_after = h.valid_after;
+      predicates = h.predicates;
+      accessed = h.accessed;
+      turn = h.turn;
+      published = h.published;
+      last = h.last;
+      writes = h.writes;
+      loads = are;
+      locks = h.locks;
+      notices = h.notices;
+      asks = h.asks;
+      listed = leaves_listed (settlement_line self) w.joined w.settled w.owning h.listed call w.readers _ (more_readers eq self.loads w h.loads) c.leave.ensures.off;
     })
 
 pub returns-clause-misses : goal.returns-clause-misses

@@ -21,6 +21,7 @@ returns-then-is_err-clause-err g c = λ w h. record {
   locks = h.locks;
   notices = h.notices;
   asks = h.asks;
+  listed = h.listed;
 }
 
 pub returns-in_default-clause-finds : goal.returns-in_default-clause-finds
@@ -52,6 +53,7 @@ returns-in_default-clause-makes g c = λ w h draws.
       locks = h.locks;
       notices = h.notices;
       asks = h.asks;
+      listed = h.listed;
     }
 
 pub returns-in_default-clause-draws : goal.returns-in_default-clause-draws
@@ -100,6 +102,7 @@ returns-clause-makes g c = λ w h draws.
       locks = h.locks;
       notices = h.notices;
       asks = h.asks;
+      listed = h.listed;
     }
 
 pub returns-clause-draws : goal.returns-clause-draws

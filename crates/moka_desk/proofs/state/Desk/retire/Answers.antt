@@ -18,6 +18,7 @@ returns-clause-makes g c = λ w h. record {
   locks = h.locks;
   notices = h.notices;
   asks = h.asks;
+  listed = h.listed;
 }
 
 pub returns-clause-misses : goal.returns-clause-misses

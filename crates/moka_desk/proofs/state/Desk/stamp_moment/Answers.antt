@@ -51,6 +51,7 @@ returns-in_err-stamp-clause-err g c = on_err c.from_residual.result (λ w h. rec
   locks = h.locks;
   notices = h.notices;
   asks = h.asks;
+  listed = h.listed;
 })
 
 pub returns-clause-makes : goal.returns-clause-makes
@@ -68,4 +69,5 @@ returns-clause-makes g c = λ w h may. record {
   locks = h.locks;
   notices = h.notices;
   asks = h.asks;
+  listed = h.listed;
 }

@@ -1,5 +1,8 @@
-use Rattle.std.proofs.Common.{sym, ◌∙◌}
-use Rattle.moka_desk.proofs.Misses.{kept_turn, anothers_turn, left_listed, wait_listed}
+use Rattle.std.proofs.Common.{◌≡◌, false, sym, subst, ◌∙◌}
+use Rattle.moka_sync.specs.Waiting.{waits}
+use Rattle.moka_desk.specs.Waits.{turn_line}
+use Rattle.moka_desk.proofs.Outcomes.{on_err}
+use Rattle.moka_desk.proofs.Misses.{kept_turn, anothers_turn, left_listed, not_this, wait_listed}
 use Rattle.moka_desk.proofs.state.Desk.take_turn.Goals as goal
 
 pub returns-in-Some-clause-misses : goal.returns-in-Some-clause-misses
@@ -22,3 +25,9 @@ returns-clause-misses g c = λ w h may m. record {
   locks = m.locks;
   notices = m.notices;
 }
+
+pub returns-in_err-wait-clause-needs_place : goal.returns-in_err-wait-clause-needs_place
+returns-in_err-wait-clause-needs_place g c = on_err c.from_residual.result (λ holder is.
+    let self = c.args.self.now in
+    let had = anothers_turn _ c.args.call c.in-Some.holder (sym c.turn_of_another.ensures ∙ c.in-Some.is) in
+    subst (λ n. waits c.args.call (turn_line self n) ≡ false) (not_this self.turn c.in-Some.holder holder had.0 is) c.in_err-wait.ensures.needs)

@@ -19,4 +19,5 @@ returns-clause-makes g c = λ w h may. record {
   locks = c.free.ensures (lock_part w) h.locks;
   notices = h.notices;
   asks = h.asks;
+  listed = h.listed;
 }

@@ -24,6 +24,7 @@ returns-clause-kept g c =
           locks = desk.locks;
           notices = desk.notices;
           asks = desk.asks;
+          listed = desk.listed;
         };
         handed = record { tests = refl; predicates = kept.stands.handed.predicates; ids = kept.stands.handed.ids };
         stay = kept.stands.stay;

@@ -2,7 +2,8 @@
 use Rattle.std.proofs.Common.{◌≡◌, refl, subst}
 use Rattle.std.proofs.lemmas.Result.{IfOk-weaker, on_err_weaker}
 use Rattle.moka_hist.specs.Step.{Access}
-use Rattle.moka_init.specs.Grounds.{Accesses, NeedsMemory}
+use Rattle.moka_init.specs.Grounds.{Accesses}
+use Rattle.moka_layers.specs.Needing.{NeedsMemory}
 use Rattle.moka_layers.specs.Layers.{Serves, account_of, handed_for, operation_in}
 use Rattle.moka_layers.proofs.Wanted.{wanted_begin, wanted_table, wanted_visit}
 use Rattle.moka_layers.proofs.layers.Layers.access_waking.Goals as goal

@@ -16,3 +16,7 @@ returns-in_err-found-clause-err g c =
 
 pub returns-clause-decides : goal.returns-clause-decides
 returns-clause-decides g c = λ always. ((λ e. (cc)), c.requires.none)
+
+pub returns-in_err-found-clause-err_needs : goal.returns-in_err-found-clause-err_needs
+returns-in_err-found-clause-err_needs g c =
+    on_err c.from_residual.result (λ w h. c.in_err-found.ensures.err_needs w.desk h.world.desk h.world.handed)

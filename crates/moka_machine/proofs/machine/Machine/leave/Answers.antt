@@ -1,5 +1,5 @@
 -- What the call held is left to others, and its place is given up.
-use Rattle.std.proofs.Common.{◌≡◌, Option, sym, ap, subst, ◌∙◌}
+use Rattle.std.proofs.Common.{◌≡◌, Option, ap, subst, ◌∙◌}
 use Rattle.moka_hist.specs.Dropping.{left}
 use Rattle.moka_hist.specs.Plan.{held_by}
 use Rattle.moka_hist.specs.declared.writes.Write.{Write}

@@ -3,9 +3,8 @@ use Rattle.std.proofs.Common.{◌≡◌, ℕ, sym, subst, ◌∙◌}
 use Rattle.moka_hist.specs.Step.{MovesOn, Polled, IsSafe, access_of}
 use Rattle.moka_init.specs.declared.flow.Flow.{Flow}
 use Rattle.moka_init.specs.FlowPlan.{call_of, next_in}
-use Rattle.moka_init.specs.Grounds.{NeedsMemory}
+use Rattle.moka_layers.specs.Needing.{StepNeedsMemory}
 use Rattle.moka_machine.specs.Machine.{IsOut, PollOut, UnfinishedOut}
-use Rattle.moka_machine.proofs.Needing.{either_needs}
 use Rattle.moka_machine.proofs.Stepping.{still_without}
 use Rattle.moka_machine.proofs.machine.Machine.poll_out.Goals as goal
 
@@ -47,6 +46,6 @@ returns-in-Err-clause-unfinished g c =
             c.put_in.ensures others m.0
                 (still_without eq g.T.Tests c.args.self.now c.poll.new.ground c.args.call flow c.poll.new.flow others w m.0 out.on c.in-Err.ensures.on c.in-Err.ensures.number c.in-Err.ensures.keeps m.2 h)
                 (record { on = c.in-Err.ensures.on; live = c.in-Err.ensures.live }),
-            subst (λ (n : ℕ). NeedsMemory m.0 (access_of n (call_of c.poll.new.flow))) (c.in-Err.ensures.number ∙ number) (either_needs m.0 c.poll.new.flow m.3),
+            subst (λ (n : ℕ). StepNeedsMemory m.0 (access_of n (call_of c.poll.new.flow))) (c.in-Err.ensures.number ∙ number) m.3,
           ),
     )

@@ -4,7 +4,8 @@ use Rattle.std.proofs.lemmas.Result.{IfOk-weaker, on_err_weaker}
 use Rattle.moka_hist.specs.State.{State}
 use Rattle.moka_hist.specs.Step.{May, access_of, state_after}
 use Rattle.moka_init.specs.FlowPlan.{call_of}
-use Rattle.moka_init.specs.Grounds.{access_at, NeedsMemory}
+use Rattle.moka_init.specs.Grounds.{access_at}
+use Rattle.moka_layers.specs.Needing.{StepNeedsMemory}
 use Rattle.moka_init.proofs.Going.{moves_none}
 use Rattle.moka_laws.proofs.Outcomes.{put_same}
 use Rattle.moka_machine.specs.Machine.{MachineIs}
@@ -61,7 +62,7 @@ returns-in-Some-clause-err_needs g c =
     subst (λ (m : ℕ). May v.state.world (access_of m d)) (sym number) (safe 0 d v.state.world (moves_none g.K.PartialEq.eq n d v.state.world)) in
     on_err_weaker c.step_out.result (λ both s stands.
     call_needs g.K.PartialEq.eq g.T.Tests c.step_out.new.self n d v.state.calls v.state.world s
-    (both.0 v.state.calls v.state.world t.0.rest) stands (subst (λ (m : ℕ). NeedsMemory v.state.world (access_of m d)) number (both.1 v.state.world t.0.rest.reaches may)))
+    (both.0 v.state.calls v.state.world t.0.rest) stands (subst (λ (m : ℕ). StepNeedsMemory v.state.world (access_of m d)) number (both.1 v.state.world t.0.rest.reaches may)))
     (on_err_both c.step_out.result _ _ c.step_out.ensures.err c.step_out.ensures.err_needs)
 
 pub returns-in-None-clause-serves : goal.returns-in-None-clause-serves

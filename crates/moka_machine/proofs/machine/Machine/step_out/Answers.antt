@@ -5,10 +5,10 @@ use Rattle.moka_hist.specs.State.{Call, World}
 use Rattle.moka_hist.specs.Step.{May, CallMoves}
 use Rattle.moka_init.specs.declared.flow.Flow.{Flow}
 use Rattle.moka_init.specs.FlowPlan.{call_of, next_in}
-use Rattle.moka_init.specs.Grounds.{NeedsMemory, access_at}
+use Rattle.moka_init.specs.Grounds.{access_at}
 use Rattle.moka_init.proofs.Stepping.{moves_in}
+use Rattle.moka_layers.specs.Needing.{StepNeedsMemory}
 use Rattle.moka_machine.specs.Machine.{IsOut, KeepsOut, MachineIs, Reaches, StepOut}
-use Rattle.moka_machine.proofs.Needing.{either_needs}
 use Rattle.moka_machine.proofs.Stepping.{still_without, still_out}
 use Rattle.moka_machine.proofs.machine.Machine.step_out.Goals as goal
 
@@ -47,6 +47,5 @@ returns-in-Err-clause-err g c =
 
 pub returns-in-Err-clause-err_needs : goal.returns-in-Err-clause-err_needs
 returns-in-Err-clause-err_needs g c =
-    let flow = c.deref_mut.result.now in
-    subst (λ (f : Flow g.row.K.Denot g.row.V.Denot g.row.E.Denot). (w : World g.row.K.Denot g.row.V.Denot g.row.E.Denot) → Reaches g.K.PartialEq.eq g.T.Tests c.args.self.now w → May w (access_at f) → NeedsMemory w (access_at f))
-    c.deref_mut.ensures.value (λ w h may. either_needs w flow (c.in-Err.ensures.err_needs w h may))
+    subst (λ (f : Flow g.row.K.Denot g.row.V.Denot g.row.E.Denot). (w : World g.row.K.Denot g.row.V.Denot g.row.E.Denot) → Reaches g.K.PartialEq.eq g.T.Tests c.args.self.now w → May w (access_at f) → StepNeedsMemory w (access_at f))
+    c.deref_mut.ensures.value c.in-Err.ensures.err_needs
