@@ -191,9 +191,9 @@ where
 
     /// Builds the cache, as `build` does, whose keys are hashed by clones of this: where records lie,
     /// who owns the load of a key, and who holds its lock. `build` takes std's hasher of fixed seed:
-    /// who picks keys can pick such that fall together there, and each call walks them under the
-    /// lock. For keys that strangers pick hand in a `RandomState`. An error of the hasher's clone is
-    /// `Memory`.
+    /// whoever picks the keys can pick ones that fall together there, and each call walks them under
+    /// the lock. For keys that strangers pick hand in a `RandomState`. An error of the hasher's
+    /// clone is `Memory`.
     pub fn build_with_hasher<S: BuildHasher + Clone + Drop>(
         self,
         alloc: Global,

@@ -63,7 +63,7 @@ pub struct TryOpBy<F, G> {
 }
 
 /// Makes a compute of a closure to a future of what is to be done with a key, or of an error. The
-/// closure is called as that of `op_by` is.
+/// closure is called once, right after the look, with what that found; its future may not keep that.
 pub fn try_op_by<K, V, E, F, G>(f: F) -> TryOpBy<F, G>
 where
     F: FnOnce(Option<&Entry<K, V>>) -> G + Drop,
@@ -104,7 +104,7 @@ pub struct ValueBy<F, G> {
 }
 
 /// Makes a compute of a closure to a future of the value that is to be stored under a key. The
-/// closure is called as that of `op_by` is.
+/// closure is called once, right after the look, with what that found; its future may not keep that.
 pub fn value_by<K, V, F, G>(f: F) -> ValueBy<F, G>
 where
     F: FnOnce(Option<&Entry<K, V>>) -> G + Drop,

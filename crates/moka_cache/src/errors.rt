@@ -64,8 +64,8 @@ pub enum PollError {
     #[error("no call number is left")]
     CallsSpent,
     /// Memory was wanting. What was done stands, and the state can be polled again. It would be
-    /// answered too where the cache did not allow what the call does next, or who is asked had no
-    /// answer to give: no run is known that comes to that.
+    /// answered too where the cache did not allow what the call does next, or where the initializer
+    /// or compute that it asked had given no answer: no run is known that comes to that.
     #[error("out of memory")]
     Memory,
 }

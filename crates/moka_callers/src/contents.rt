@@ -21,7 +21,7 @@ pub fn records_stand<K: Eq, V, E>()
 {}
 
 /// A call whose answer tells of no change has committed nothing: that nothing was found, a value that
-/// is not fresh, nothing, an error, unchanged, still none, kept.
+/// is not fresh, nothing, an error, that it gave up, unchanged, still none, kept.
 pub fn quiet_commit_nothing<K: Eq, V, E>()
     ensures nothing { QuietCommitNothing K V E K.eq }
 {}
