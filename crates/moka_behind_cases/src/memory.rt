@@ -137,18 +137,45 @@ fn left(key: u32, calls: usize) -> Option<u32> {
     left
 }
 
+/// What came of the calls: how many were made until memory was wanting, whether each call after that
+/// told so, how many writes were unsent then, whether the cache drained without an error, and how
+/// many were unsent after that.
+struct Tried {
+    made: usize,
+    told: bool,
+    unsent: u64,
+    drained: bool,
+    left: u64,
+}
+
+/// Makes the calls in turn, until memory is wanting, and drains.
+fn try_all(behind: &mut Behind, keeper: &mut MapKeeper) -> Tried
+    requires { IsUsable behind.old }
+{
+    let made = make_all(behind);
+    let told = is_spent_if(behind, keeper, made < CALLS.len());
+    let unsent = behind.unsent();
+    let drained = drain(behind, keeper).is_ok();
+    Tried {
+        made,
+        told,
+        unsent,
+        drained,
+        left: behind.unsent(),
+    }
+}
+
 #[test]
 fn no_write_is_lost_where_memory_was_wanting(rt: HostRuntime) -> Result<(), Fail> {
     let mut keeper = keeper_at_last(rt.alloc())?;
     let mut behind = behind_at_last(rt.alloc())?;
-    let made = make_all(&mut behind);
-    let spent = made < CALLS.len();
-    let told = is_spent_if(&mut behind, &mut keeper, spent);
-    assert!(rt; told);
-    assert_eq!(rt; behind.unsent(), accepted(made));
-    let sent = drain(&mut behind, &mut keeper);
-    assert_eq!(rt; sent.is_err(), spent);
-    assert_eq!(rt; behind.unsent(), 0);
+    let tried = try_all(&mut behind, &mut keeper);
+    drop(behind);
+    let made = tried.made;
+    assert!(rt; tried.told);
+    assert_eq!(rt; tried.unsent, accepted(made));
+    assert_eq!(rt; tried.drained, made == CALLS.len());
+    assert_eq!(rt; tried.left, 0);
     for key in 1..9 {
         let found = keeper.get(key);
         assert_eq!(rt; found, Ok(left(key, made)));

@@ -11,8 +11,21 @@ const CAPACITY: u64 = 1000;
 /// were sent.
 pub(crate) fn run<Kp: Keeper>(rt: &HostRuntime, keeper: &mut Kp) -> Result<(), RunError> {
     let mut behind = Behind::new(rt.alloc(), CAPACITY)?;
-    println!(rt; "found: {:?}", look(&mut behind, keeper)?)?;
-    println!(rt; "sent: {}", write(&mut behind, keeper)?)?;
+    let shown = look_and_write(rt, &mut behind, keeper);
+    drop(behind);
+    shown
+}
+
+/// Looks, and then writes. Shows what was found, and how many writes were sent.
+fn look_and_write<Kp: Keeper>(
+    rt: &HostRuntime,
+    behind: &mut Behind,
+    keeper: &mut Kp,
+) -> Result<(), RunError>
+    requires { IsUsable behind.old }
+{
+    println!(rt; "found: {:?}", look(behind, keeper)?)?;
+    println!(rt; "sent: {}", write(behind, keeper)?)?;
     Ok(())
 }
 

@@ -111,9 +111,23 @@ fn bytes_of(alloc: Global, text: &str) -> Result<Vec<u8>, AllocError> {
 /// Does each thing in turn, on a new gateway.
 pub fn play(alloc: Global, acts: &[Act], cut: Cut) -> Result<Trace, AllocError> {
     let mut gateway = Gateway::new(alloc)?;
+    let trace = play_on(alloc, &mut gateway, acts, cut);
+    drop(gateway);
+    trace
+}
+
+/// Does each thing in turn.
+fn play_on(
+    alloc: Global,
+    gateway: &mut Gateway,
+    acts: &[Act],
+    cut: Cut,
+) -> Result<Trace, AllocError>
+    requires { IsUsable gateway.old }
+{
     let mut trace = Trace::new(alloc);
     for act in acts {
-        carry_out(alloc, &mut gateway, *act, cut, &mut trace)?;
+        carry_out(alloc, gateway, *act, cut, &mut trace)?;
     }
     Ok(trace)
 }

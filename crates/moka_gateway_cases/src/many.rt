@@ -19,18 +19,25 @@ fn open_all(gateway: &mut Gateway, count: u32) -> Result<u32, AllocError>
     Ok(refused)
 }
 
+/// How many of 1001 clients are refused, whether client 500 is closed then, and who is opened next,
+/// and after that.
+fn opened(gateway: &mut Gateway) -> Result<(u32, bool, Option<u64>, Option<u64>), AllocError>
+    requires { IsUsable gateway.old }
+{
+    let refused = open_all(gateway, 1001)?;
+    let closed = gateway.close(500)?.is_some();
+    let next = gateway.open()?;
+    let after = gateway.open()?;
+    Ok((refused, closed, next, after))
+}
+
 /// The 1001st client is refused, until another is closed.
 #[test]
 fn a_thousand_clients_are_open_at_most(rt: HostRuntime) -> Result<(), Fail> {
     let mut gateway = Gateway::new(rt.alloc())?;
-    let refused = open_all(&mut gateway, 1001)?;
-    let closed = gateway.close(500)?.is_some();
-    let next = gateway.open()?;
-    let after = gateway.open()?;
-    assert_eq!(rt; refused, 1);
-    assert!(rt; closed);
-    assert_eq!(rt; next, Some(1001));
-    assert_eq!(rt; after, None);
+    let opened = opened(&mut gateway);
+    drop(gateway);
+    assert_eq!(rt; opened?, (1, true, Some(1001), None));
     Ok(())
 }
 
@@ -71,15 +78,27 @@ fn close_all(gateway: &mut Gateway, count: u64) -> Result<usize, AllocError>
 #[test]
 fn an_upstream_request_is_handed_over_300_times(rt: HostRuntime) -> Result<(), Fail> {
     let mut gateway = Gateway::new(rt.alloc())?;
-    let refused = open_all(&mut gateway, 301)?;
-    let fetches = ask_all(&mut gateway, 302)?;
-    let cancels = close_all(&mut gateway, 301)?;
-    let answered = gateway.reply(7, Ok(1))?;
-    assert_eq!(rt; refused, 0);
-    assert_eq!(rt; fetches, 1);
-    assert_eq!(rt; cancels, 0);
-    assert!(rt; is_to(&answered, 301, b"value 1\n"));
+    let handed = handed_over(&mut gateway);
+    drop(gateway);
+    assert_eq!(rt; handed?, (0, 1, 0, true));
     Ok(())
+}
+
+/// How many of 301 clients that wait for one key are refused, how many fetches they bring, how many
+/// cancels come as all but the last are closed, and whether that is answered.
+fn handed_over(gateway: &mut Gateway) -> Result<(u32, usize, usize, bool), AllocError>
+    requires { IsUsable gateway.old }
+{
+    let refused = open_all(gateway, 301)?;
+    let fetches = ask_all(gateway, 302)?;
+    let cancels = close_all(gateway, 301)?;
+    let answered = gateway.reply(7, Ok(1))?;
+    Ok((
+        refused,
+        fetches,
+        cancels,
+        is_to(&answered, 301, b"value 1\n"),
+    ))
 }
 
 /// Whether this is to be sent to the client, and nothing else is to be done.

@@ -88,6 +88,8 @@ fn a_row_comes_to_all_or_nothing(rt: HostRuntime) -> Result<(), Fail> {
 #[test]
 fn a_spent_gateway_stays_spent(rt: HostRuntime) -> Result<(), Fail> {
     let mut gateway = gateway_at_last(rt.alloc())?;
-    assert!(rt; stays_spent(&mut gateway));
+    let stays = stays_spent(&mut gateway);
+    drop(gateway);
+    assert!(rt; stays);
     Ok(())
 }

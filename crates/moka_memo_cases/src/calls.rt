@@ -40,6 +40,15 @@ fn value_of(memo: &mut Memo, rule: u32) -> Result<Option<u32>, AllocError>
     }
 }
 
+/// The values of rules 3 and 2, the second of which is known by then.
+fn third_and_second_of(memo: &mut Memo) -> Result<Option<(u32, u32)>, AllocError>
+    requires { IsUsable memo.old }
+{
+    let third = value_of(memo, 3)?;
+    let second = value_of(memo, 2)?;
+    Ok(third.zip(second))
+}
+
 /// The values of rules 3 and 2, the second of which is known by then. None where the rules are not
 /// acyclic, or fewer.
 fn third_and_second(alloc: Global, rules: RuleList) -> Result<Option<(u32, u32)>, AllocError> {
@@ -47,9 +56,9 @@ fn third_and_second(alloc: Global, rules: RuleList) -> Result<Option<(u32, u32)>
         return Ok(None);
     }
     let mut memo = Memo::new(alloc, rules)?;
-    let third = value_of(&mut memo, 3)?;
-    let second = value_of(&mut memo, 2)?;
-    Ok(third.zip(second))
+    let values = third_and_second_of(&mut memo);
+    drop(memo);
+    values
 }
 
 #[test]
