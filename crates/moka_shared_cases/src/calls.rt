@@ -1,76 +1,10 @@
 //! Calls of tables of numbers, made by the tests.
 ghost use Rattle.std.specs.Prelude.{◌≡◌};
 
-use moka_shared::{HashMap, Missed, Seat, TryChange, TryGet, TryInsert, TrySeal, Unopened};
+use moka_shared::{HashMap, Seat, TryChange, TryGet, TryInsert, TrySeal, Unopened};
 use moka_words::Word;
-use std::alloc::Global;
+use std::alloc::{AllocError, Global};
 use std::hash::BuildHasher;
-
-/// Puts the pair where its key is absent.
-pub(crate) fn put<S: BuildHasher + Drop>(
-    table: &HashMap<u64, u64, S>,
-    seat: &mut Seat<u64, u64, S>,
-    key: u64,
-    value: u64,
-) -> TryInsert<u64, u64>
-    requires { seat.old.front.book ≡ table.now.book }
-    ensures { seat.new.front.book ≡ table.now.book }
-{
-    let hash = table.hash(&key);
-    table.try_insert_if_not_present(seat, key, hash, value)
-}
-
-/// Puts the value in place of the one under the key.
-pub(crate) fn replace<S: BuildHasher + Drop>(
-    table: &HashMap<u64, u64, S>,
-    seat: &mut Seat<u64, u64, S>,
-    key: u64,
-    value: u64,
-) -> TryChange<u64>
-    requires { seat.old.front.book ≡ table.now.book }
-    ensures { seat.new.front.book ≡ table.now.book }
-{
-    let hash = table.hash(&key);
-    table.try_replace(seat, &key, hash, &value)
-}
-
-/// Removes the pair of the key.
-pub(crate) fn remove<S: BuildHasher + Drop>(
-    table: &HashMap<u64, u64, S>,
-    seat: &mut Seat<u64, u64, S>,
-    key: u64,
-) -> TryChange<u64>
-    requires { seat.old.front.book ≡ table.now.book }
-    ensures { seat.new.front.book ≡ table.now.book }
-{
-    let hash = table.hash(&key);
-    table.try_remove(seat, &key, hash)
-}
-
-/// The value under the key, if there is one.
-pub(crate) fn value_of<S: BuildHasher + Drop>(
-    table: &HashMap<u64, u64, S>,
-    seat: &mut Seat<u64, u64, S>,
-    key: u64,
-) -> Option<u64>
-    requires { seat.old.front.book ≡ table.now.book }
-    ensures { seat.new.front.book ≡ table.now.book }
-{
-    let hash = table.hash(&key);
-    match table.try_get(seat, hash, |other: &u64| *other == key) {
-        Ok(TryGet::Found(value)) => value,
-        Ok(TryGet::Again(_)) => None,
-        Err(_) => None,
-    }
-}
-
-// The value that was changed or removed.
-fn changed(answer: &TryChange<u64>) -> Option<u64> {
-    match answer {
-        TryChange::Changed(former) => Some(*former),
-        _ => None,
-    }
-}
 
 /// A table of numbers, and what one caller has seen of it.
 #[derive(Drop)]
@@ -89,9 +23,35 @@ impl<'a, S: BuildHasher + Drop> Caller<'a, S> {
         }
     }
 
+    /// How many segments the table has.
+    pub(crate) fn segments(&self) -> usize {
+        self.table.actual_num_segments()
+    }
+
     /// Puts the pair where its key is absent.
     pub(crate) fn put(&mut self, key: u64, value: u64) -> TryInsert<u64, u64> {
-        put(self.table, &mut self.seat, key, value)
+        let hash = self.table.hash(&key);
+        self.table
+            .try_insert_if_not_present(&mut self.seat, key, hash, value)
+    }
+
+    /// Puts the value in place of the one under the key.
+    pub(crate) fn replace(&mut self, key: u64, value: u64) -> TryChange<u64> {
+        let hash = self.table.hash(&key);
+        self.table.try_replace(&mut self.seat, &key, hash, &value)
+    }
+
+    /// Removes the pair of the key.
+    pub(crate) fn remove(&mut self, key: u64) -> TryChange<u64> {
+        let hash = self.table.hash(&key);
+        self.table.try_remove(&mut self.seat, &key, hash)
+    }
+
+    /// Looks for the key.
+    pub(crate) fn get(&mut self, key: u64) -> Result<TryGet<u64>, AllocError> {
+        let hash = self.table.hash(&key);
+        self.table
+            .try_get(&mut self.seat, hash, |other: &u64| *other == key)
     }
 
     /// Whether the pair is put.
@@ -99,31 +59,33 @@ impl<'a, S: BuildHasher + Drop> Caller<'a, S> {
         matches!(self.put(key, value), TryInsert::Inserted)
     }
 
-    /// Puts the value in place of the one under the key. Answers the former one, if it is changed.
-    pub(crate) fn replaced(&mut self, key: u64, value: u64) -> Option<u64> {
-        changed(&replace(self.table, &mut self.seat, key, value))
+    /// Whether the key is found with this value.
+    pub(crate) fn has(&mut self, key: u64, value: u64) -> bool {
+        matches!(self.get(key), Ok(TryGet::Found(Some(found))) if found == value)
     }
 
-    /// Removes the pair of the key. Answers its value, if it is removed.
-    pub(crate) fn removed(&mut self, key: u64) -> Option<u64> {
-        changed(&remove(self.table, &mut self.seat, key))
-    }
-
-    /// The value under the key, if there is one.
-    pub(crate) fn value_of(&mut self, key: u64) -> Option<u64> {
-        value_of(self.table, &mut self.seat, key)
-    }
-
-    /// The sealed word at which a look for the key stops, its array and its bucket.
-    pub(crate) fn met(&mut self, key: u64) -> Option<(Word, u64, usize)> {
-        let hash = self.table.hash(&key);
-        match self
-            .table
-            .try_get(&mut self.seat, hash, |other: &u64| *other == key)
-        {
-            Ok(TryGet::Again(Missed::Sealed { word, array, index })) => Some((word, array, index)),
-            _ => None,
+    /// Puts each key from the first one up to the end with itself as its value. Answers how many are
+    /// put.
+    pub(crate) fn put_all(&mut self, first: u64, end: u64) -> usize {
+        let mut count = 0usize;
+        for key in first..end {
+            if self.is_put(key, key) {
+                count = count.wrapping_add(1);
+            }
         }
+        count
+    }
+
+    /// Looks for each key from the first one up to the end. Answers how many are found with themselves
+    /// as their values.
+    pub(crate) fn get_all(&mut self, first: u64, end: u64) -> usize {
+        let mut count = 0usize;
+        for key in first..end {
+            if self.has(key, key) {
+                count = count.wrapping_add(1);
+            }
+        }
+        count
     }
 
     /// Makes a row of so many words for the first segment. Answers how many it has, and its ticket.
@@ -137,14 +99,22 @@ impl<'a, S: BuildHasher + Drop> Caller<'a, S> {
         }
     }
 
-    /// Seals the word of this bucket of the first segment. Answers what stands there for good.
-    pub(crate) fn sealed(&mut self, index: usize) -> Option<Word> {
+    /// Seals the word of this bucket of the first segment, if there is one.
+    pub(crate) fn seal(&mut self, index: usize) -> Option<TrySeal> {
         if self.table.actual_num_segments() == 0 || index >= self.table.words_per_segment() {
             return None;
         }
-        match self.table.try_seal(&mut self.seat, 0, index) {
-            TrySeal::Sealed(word) => Some(word),
-            TrySeal::Again(_) => None,
+        Some(self.table.try_seal(&mut self.seat, 0, index))
+    }
+
+    /// Seals the words of the first segment before this bucket. Answers how many of them were empty.
+    pub(crate) fn seal_all(&mut self, end: usize) -> usize {
+        let mut count = 0usize;
+        for index in 0..end {
+            if self.seal(index) == Some(TrySeal::Sealed(Word::SealedEmpty)) {
+                count = count.wrapping_add(1);
+            }
         }
+        count
     }
 }

@@ -1,73 +1,50 @@
 //! A row that is made for a new array, and words that are sealed.
 
-use crate::calls::Caller;
-use crate::seats::Table;
-use moka_shared::{HashMap, Missed, TryInsert, Unopened};
+use crate::hashers::BuildLast;
+use crate::rows::Deed::{Get, Open, Put, Seal, SealAll};
+use crate::rows::Told::{Again, Count, Inserted, Memory, PutBack, Sealed, Value};
+use crate::rows::{Row, Told, wrong_row};
+use moka_shared::Missed;
 use moka_words::Word;
-use std::alloc::{AllocError, Global};
-use std::hash::BuildHasherDefault;
 use std::test::*;
-
-// A table of one segment, of 128 words.
-fn of_one_segment(alloc: Global) -> Result<Table, AllocError> {
-    HashMap::with_num_segments_capacity_and_hasher(alloc, 1, 64, BuildHasherDefault::new())
-}
-
-// The sealed word that was met, its array and its bucket.
-fn met(missed: &Missed) -> Option<(Word, u64, usize)> {
-    match missed {
-        Missed::Sealed { word, array, index } => Some((*word, *array, *index)),
-        _ => None,
-    }
-}
-
-// The pair that comes back, and the sealed word.
-fn put_back(answer: &TryInsert<u64, u64>) -> Option<(u64, u64, Option<(Word, u64, usize)>)> {
-    match answer {
-        TryInsert::Again { missed, key, value } => Some((*key, *value, met(missed))),
-        _ => None,
-    }
-}
 
 #[test]
 fn a_row_has_the_words_and_the_ticket_of_its_array(rt: HostRuntime) -> Result<(), Fail> {
-    let table = of_one_segment(rt.alloc())?;
-    let mut caller = Caller::new(&table);
-    assert!(rt; caller.is_put(1, 10));
-    assert_eq!(rt; caller.row(rt.alloc(), 256), Ok((256, 3)));
-    assert_eq!(rt; caller.row(rt.alloc(), 1), Ok((1, 4)));
-    assert_eq!(rt; caller.row(rt.alloc(), 0), Ok((0, 5)));
-    assert_eq!(rt; caller.value_of(1), Some(10));
-    assert!(rt; caller.is_put(2, 20));
+    let rows = [
+        Row(Put(1, 10), Inserted),
+        Row(Open(256), Told::Row(256, 3)),
+        Row(Open(1), Told::Row(1, 4)),
+        Row(Open(0), Told::Row(0, 5)),
+        Row(Get(1), Value(10)),
+        Row(Put(2, 20), Inserted),
+    ];
+    assert_eq!(rt; wrong_row(rt.alloc(), 1, 64, BuildLast {}, &rows)?, None);
     Ok(())
 }
 
 #[test]
 fn a_row_without_memory_draws_no_ticket(rt: HostRuntime) -> Result<(), Fail> {
-    let table = of_one_segment(rt.alloc())?;
-    let mut caller = Caller::new(&table);
-    assert_eq!(rt; caller.row(rt.alloc(), usize::MAX), Err(Unopened::Memory));
-    assert_eq!(rt; caller.row(rt.alloc(), 2), Ok((2, 2)));
+    let rows = [Row(Open(usize::MAX), Memory), Row(Open(2), Told::Row(2, 2))];
+    assert_eq!(rt; wrong_row(rt.alloc(), 1, 64, BuildLast {}, &rows)?, None);
     Ok(())
 }
 
+// Of the 128 words the last one stores key 1.
 #[test]
 fn calls_stop_at_sealed_words(rt: HostRuntime) -> Result<(), Fail> {
-    let table = of_one_segment(rt.alloc())?;
-    let mut caller = Caller::new(&table);
-    assert!(rt; caller.is_put(1, 10));
-    let mut index = 0;
-    for bucket in 0..128 {
-        if caller.sealed(bucket) != Some(Word::SealedEmpty) {
-            index = bucket;
-        }
-    }
     let word = Word::SealedLive(2);
-    assert_eq!(rt; caller.sealed(index), Some(word));
-    assert_eq!(rt; caller.met(1), Some((word, 1, index)));
-    assert_eq!(rt;
-        put_back(&caller.put(1, 11)),
-        Some((1, 11, Some((word, 1, index))))
-    );
+    let missed = Missed::Sealed {
+        word,
+        array: 1,
+        index: 127,
+    };
+    let rows = [
+        Row(Put(1, 10), Inserted),
+        Row(SealAll(128), Count(127)),
+        Row(Seal(127), Sealed(word)),
+        Row(Get(1), Again(missed)),
+        Row(Put(1, 11), PutBack(missed, 1, 11)),
+    ];
+    assert_eq!(rt; wrong_row(rt.alloc(), 1, 64, BuildLast {}, &rows)?, None);
     Ok(())
 }

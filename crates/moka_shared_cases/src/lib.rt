@@ -12,6 +12,8 @@ mod memory;
 #[cfg(test)]
 mod removals;
 #[cfg(test)]
+mod rows;
+#[cfg(test)]
 mod seats;
 #[cfg(test)]
 mod shy;

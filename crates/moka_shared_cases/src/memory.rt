@@ -2,40 +2,63 @@
 //! in a run: so a pair that came back is put by the next call.
 
 use crate::calls::Caller;
-use crate::seats::empty;
-use moka_shared::TryInsert;
+use crate::seats::{Fold, Table, of_capacity};
+use moka_shared::{TryChange, TryInsert};
 use std::test::*;
 
-// Whether want of memory gave this pair back.
-fn came_back(answer: &TryInsert<u64, u64>, pair: (u64, u64)) -> bool {
-    match answer {
-        TryInsert::Memory { key, value } => (*key, *value) == pair,
+/// How many keys are put.
+const KEYS: u64 = 64;
+
+// Whether the pair is put by the next call, where want of memory gave it back.
+fn puts_in_two(caller: &mut Caller<'_, Fold>, key: u64) -> bool {
+    match caller.put(key, key) {
+        TryInsert::Inserted => true,
+        TryInsert::Memory { key: back, value } => {
+            back == key && value == key && caller.is_put(key, key)
+        }
         _ => false,
     }
 }
 
+// Whether the value is replaced by the next call, where memory was wanting and it stayed.
+fn replaces_in_two(caller: &mut Caller<'_, Fold>, key: u64) -> bool {
+    match caller.replace(key, 100) {
+        TryChange::Changed(former) => former == key,
+        _ => caller.has(key, key) && is_replaced(caller, key),
+    }
+}
+
+// Whether the key's own number is replaced.
+fn is_replaced(caller: &mut Caller<'_, Fold>, key: u64) -> bool {
+    matches!(caller.replace(key, 100), TryChange::Changed(former) if former == key)
+}
+
+// The first key that isn't put, or found, or whose value isn't replaced.
+fn first_wrong(table: &Table) -> Option<u64> {
+    let mut caller = Caller::new(table);
+    for key in 0..KEYS {
+        if !puts_in_two(&mut caller, key) {
+            return Some(key);
+        }
+    }
+    for key in 0..KEYS {
+        if !caller.has(key, key) {
+            return Some(key);
+        }
+    }
+    for key in 0..KEYS {
+        if !replaces_in_two(&mut caller, key) {
+            return Some(key);
+        }
+    }
+    None
+}
+
 #[test]
 fn a_pair_that_came_back_is_put_by_the_next_call(rt: HostRuntime) -> Result<(), Fail> {
-    let Ok(table) = empty(rt.alloc()) else {
+    let Ok(table) = of_capacity(rt.alloc(), 64) else {
         return Ok(());
     };
-    let mut caller = Caller::new(&table);
-    for key in 0..64u64 {
-        let first = caller.put(key, key);
-        if !matches!(first, TryInsert::Inserted) {
-            assert!(rt; came_back(&first, (key, key)), "{key}");
-            let second = caller.put(key, key);
-            assert!(rt; matches!(second, TryInsert::Inserted), "{key}");
-        }
-    }
-    for key in 0..64u64 {
-        assert_eq!(rt; caller.value_of(key), Some(key));
-    }
-    for key in 0..64u64 {
-        if caller.replaced(key, 100) != Some(key) {
-            assert_eq!(rt; caller.value_of(key), Some(key));
-            assert_eq!(rt; caller.replaced(key, 100), Some(key));
-        }
-    }
+    assert_eq!(rt; first_wrong(&table), None);
     Ok(())
 }

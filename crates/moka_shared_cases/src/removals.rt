@@ -2,9 +2,11 @@
 
 use crate::calls::Caller;
 use crate::hashers::BuildLast;
-use crate::seats::{Table, empty};
-use moka_shared::HashMap;
-use std::hash::BuildHasherDefault;
+use crate::rows::Deed::{Get, GetAll, Put, PutAll, Remove, Replace};
+use crate::rows::Told::{Count, Inserted, Nothing, PutBack, Value};
+use crate::rows::{Row, wrong_row};
+use crate::seats::{Table, fold, of_capacity};
+use moka_shared::{Missed, TryChange};
 use std::sync::Wait;
 use std::test::*;
 use std::thread;
@@ -15,64 +17,51 @@ const ROUNDS: u64 = 1_000_000;
 
 #[test]
 fn a_pair_is_replaced_removed_and_put_again(rt: HostRuntime) -> Result<(), Fail> {
-    let table = empty(rt.alloc())?;
-    let mut caller = Caller::new(&table);
-    assert_eq!(rt; caller.removed(1), None);
-    assert_eq!(rt; caller.replaced(1, 9), None);
-    assert!(rt; caller.is_put(1, 10));
-    assert_eq!(rt; caller.replaced(1, 11), Some(10));
-    assert_eq!(rt; caller.value_of(1), Some(11));
-    assert_eq!(rt; caller.removed(1), Some(11));
-    assert_eq!(rt; caller.value_of(1), None);
-    assert_eq!(rt; caller.removed(1), None);
-    assert!(rt; caller.is_put(1, 12));
-    assert_eq!(rt; caller.value_of(1), Some(12));
+    let rows = [
+        Row(Remove(1), Nothing),
+        Row(Replace(1, 9), Nothing),
+        Row(Put(1, 10), Inserted),
+        Row(Replace(1, 11), Value(10)),
+        Row(Get(1), Value(11)),
+        Row(Remove(1), Value(11)),
+        Row(Get(1), Nothing),
+        Row(Remove(1), Nothing),
+        Row(Put(1, 12), Inserted),
+        Row(Get(1), Value(12)),
+    ];
+    assert_eq!(rt; wrong_row(rt.alloc(), 64, 64, fold(), &rows)?, None);
     Ok(())
 }
 
 #[test]
 fn a_removal_frees_a_bucket_for_its_key_alone(rt: HostRuntime) -> Result<(), Fail> {
-    let table: Table = HashMap::with_num_segments_capacity_and_hasher(
-        rt.alloc(),
-        1,
-        64,
-        BuildHasherDefault::new(),
-    )?;
-    let mut caller = Caller::new(&table);
-    for key in 0..128u64 {
-        assert!(rt; caller.is_put(key, key), "{key}");
-    }
-    assert_eq!(rt; caller.removed(5), Some(5));
-    assert!(rt; !caller.is_put(128, 128));
-    assert!(rt; caller.is_put(5, 50));
-    assert!(rt; !caller.is_put(129, 129));
-    for key in 0..128u64 {
-        let value = if key == 5 { 50 } else { key };
-        assert_eq!(rt; caller.value_of(key), Some(value));
-    }
+    let full = Missed::NoFree { length: 128 };
+    let rows = [
+        Row(PutAll(0, 128), Count(128)),
+        Row(Remove(5), Value(5)),
+        Row(Put(128, 128), PutBack(full, 128, 128)),
+        Row(Put(5, 50), Inserted),
+        Row(Put(129, 129), PutBack(full, 129, 129)),
+        Row(GetAll(0, 5), Count(5)),
+        Row(Get(5), Value(50)),
+        Row(GetAll(6, 128), Count(122)),
+    ];
+    assert_eq!(rt; wrong_row(rt.alloc(), 1, 64, fold(), &rows)?, None);
     Ok(())
 }
 
 #[test]
 fn keys_of_one_hash_are_found_past_a_removed_one(rt: HostRuntime) -> Result<(), Fail> {
-    let table: HashMap<u64, u64, BuildLast> = HashMap::with_num_segments_capacity_and_hasher(
-        rt.alloc(),
-        1,
-        8,
-        BuildLast {},
-    )?;
-    let mut caller = Caller::new(&table);
-    for key in 0..16u64 {
-        assert!(rt; caller.is_put(key, key), "{key}");
-    }
-    assert_eq!(rt; caller.removed(3), Some(3));
-    for key in 4..16u64 {
-        assert_eq!(rt; caller.value_of(key), Some(key));
-    }
-    assert_eq!(rt; caller.removed(15), Some(15));
-    assert_eq!(rt; caller.replaced(15, 1), None);
-    assert!(rt; caller.is_put(15, 2));
-    assert_eq!(rt; caller.value_of(15), Some(2));
+    let rows = [
+        Row(PutAll(0, 16), Count(16)),
+        Row(Remove(3), Value(3)),
+        Row(GetAll(4, 16), Count(12)),
+        Row(Remove(15), Value(15)),
+        Row(Replace(15, 1), Nothing),
+        Row(Put(15, 2), Inserted),
+        Row(Get(15), Value(2)),
+    ];
+    assert_eq!(rt; wrong_row(rt.alloc(), 1, 8, BuildLast {}, &rows)?, None);
     Ok(())
 }
 
@@ -111,7 +100,7 @@ fn removes_often(table: &Table, key: u64) -> Tally {
     let mut caller = Caller::new(table);
     let mut tally = NONE;
     for _ in 0..ROUNDS {
-        if let Some(value) = caller.removed(key) {
+        if let TryChange::Changed(value) = caller.remove(key) {
             tally = tally.one_more(value);
         }
     }
@@ -125,12 +114,11 @@ fn puts_and_removes<R: Threads + Wait + Sync>(rt: &R, table: &Table, key: u64) -
 
 #[test]
 fn each_removal_has_its_own_insert(rt: HostRuntime) -> Result<(), Fail> {
-    let table = empty(rt.alloc())?;
+    let table = of_capacity(rt.alloc(), 64)?;
     let (put, removed) = puts_and_removes(&rt, &table, 7);
-    let mut caller = Caller::new(&table);
-    let left = match caller.removed(7) {
-        Some(value) => removed.one_more(value),
-        None => removed,
+    let left = match Caller::new(&table).remove(7) {
+        TryChange::Changed(value) => removed.one_more(value),
+        _ => removed,
     };
     assert_eq!(rt; left, put);
     Ok(())

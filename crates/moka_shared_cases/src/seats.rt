@@ -1,53 +1,55 @@
 //! One seat, and two.
 
-use crate::calls::{put, value_of};
-use moka_shared::{HashMap, TryInsert};
+use crate::rows::Deed::{Get, Put, Segments};
+use crate::rows::Told::{Count, Inserted, Nothing, Present, Value};
+use crate::rows::{Row, get_told, insert_told, wrong_row};
+use moka_shared::HashMap;
 use std::alloc::{AllocError, Global};
 use std::hash::{BuildHasherDefault, FoldHasher};
 use std::test::*;
 
-/// A table of numbers.
-pub(crate) type Table = HashMap<u64, u64, BuildHasherDefault<FoldHasher>>;
+/// What makes the hashers of most tables.
+pub(crate) type Fold = BuildHasherDefault<FoldHasher>;
 
-/// A table of 64 segments for 64 pairs.
-pub(crate) fn empty(alloc: Global) -> Result<Table, AllocError> {
-    HashMap::with_capacity(alloc, 64, BuildHasherDefault::new())
+/// A table of numbers.
+pub(crate) type Table = HashMap<u64, u64, Fold>;
+
+/// What makes its hashers.
+pub(crate) fn fold() -> Fold {
+    BuildHasherDefault::new()
 }
 
-// The value that stands there, where a pair comes back.
-fn present(answer: &TryInsert<u64, u64>) -> Option<(u64, u64, u64)> {
-    match answer {
-        TryInsert::Present { found, key, value } => Some((*found, *key, *value)),
-        _ => None,
-    }
+/// A table for so many pairs, of as many segments as one has where none are asked for.
+pub(crate) fn of_capacity(alloc: Global, capacity: usize) -> Result<Table, AllocError> {
+    HashMap::with_capacity(alloc, capacity, fold())
 }
 
 #[test]
 fn a_pair_is_put_once(rt: HostRuntime) -> Result<(), Fail> {
-    let table = empty(rt.alloc())?;
-    let mut seat = table.seat();
-    assert_eq!(rt; table.actual_num_segments(), 64);
-    assert_eq!(rt; value_of(&table, &mut seat, 1), None);
-    let first = put(&table, &mut seat, 1, 10);
-    assert!(rt; matches!(first, TryInsert::Inserted));
-    let second = put(&table, &mut seat, 1, 11);
-    assert_eq!(rt; present(&second), Some((10, 1, 11)));
-    assert_eq!(rt; value_of(&table, &mut seat, 1), Some(10));
-    assert_eq!(rt; value_of(&table, &mut seat, 2), None);
-    table.close();
+    let rows = [
+        Row(Segments, Count(64)),
+        Row(Get(1), Nothing),
+        Row(Put(1, 10), Inserted),
+        Row(Put(1, 11), Present(10, 1, 11)),
+        Row(Get(1), Value(10)),
+        Row(Get(2), Nothing),
+    ];
+    assert_eq!(rt; wrong_row(rt.alloc(), 64, 64, fold(), &rows)?, None);
     Ok(())
 }
 
 #[test]
 fn what_one_seat_put_another_finds(rt: HostRuntime) -> Result<(), Fail> {
-    let table = empty(rt.alloc())?;
-    let mut one = table.seat();
-    let mut other = table.seat();
-    let first = put(&table, &mut one, 7, 70);
-    assert!(rt; matches!(first, TryInsert::Inserted));
+    let table = of_capacity(rt.alloc(), 64)?;
+    assert_eq!(rt; table.actual_num_segments(), 64);
+    let hash = table.hash(&7);
+    let (mut one, mut other) = (table.seat(), table.seat());
+    let first = table.try_insert_if_not_present(&mut one, 7, hash, 70);
+    assert_eq!(rt; insert_told(&first), Inserted);
     table.meet(&mut one, &mut other);
-    assert_eq!(rt; value_of(&table, &mut other, 7), Some(70));
-    let second = put(&table, &mut other, 7, 71);
-    assert_eq!(rt; present(&second), Some((70, 7, 71)));
+    let found = table.try_get(&mut other, hash, |key: &u64| *key == 7);
+    assert_eq!(rt; get_told(&found), Value(70));
+    let second = table.try_insert_if_not_present(&mut other, 7, hash, 71);
+    assert_eq!(rt; insert_told(&second), Present(70, 7, 71));
     Ok(())
 }

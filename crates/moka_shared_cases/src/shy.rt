@@ -1,10 +1,12 @@
 //! A shelf that hides the first item which a caller asks it for, once.
 
+use crate::rows::Told::{Again, Inserted, Present, PutBack, Value};
+use crate::rows::{change_told, get_told, insert_told};
+use crate::seats::{Fold, fold};
 use boxcar::tag::Tag;
-use moka_shared::{Anything, HashMap, Missed, Node, TryChange, TryGet, TryInsert};
+use moka_shared::{Anything, HashMap, Missed, Node};
 use moka_shelf::{Hidden, Numbered, OnceShelf, Shelf};
 use std::alloc::{AllocError, Global};
-use std::hash::{BuildHasherDefault, FoldHasher};
 use std::test::*;
 
 /// What a shy shelf has hidden from one caller.
@@ -65,13 +67,11 @@ impl<T: Numbered> Shelf<T> for Shy<T> {
     }
 }
 
-type Fold = BuildHasherDefault<FoldHasher>;
-
 /// A table of numbers on a shy shelf.
 type ShyTable = HashMap<u64, u64, Fold, Anything, Shy<Node<u64, u64, Fold, Anything>>>;
 
 fn empty(alloc: Global) -> Result<ShyTable, AllocError> {
-    HashMap::with_capacity(alloc, 64, BuildHasherDefault::new())
+    HashMap::with_capacity(alloc, 64, fold())
 }
 
 // A table of 64 segments draws 65 first.
@@ -83,11 +83,10 @@ fn a_look_whose_node_was_hidden_finds_it_the_next_time(rt: HostRuntime) -> Resul
     let mut seat = table.seat();
     let hash = table.hash(&1);
     let put = table.try_insert_if_not_present(&mut seat, 1, hash, 10);
-    assert!(rt; matches!(put, TryInsert::Inserted));
-    let first = table.try_get(&mut seat, hash, |key: &u64| *key == 1)?;
-    assert!(rt; matches!(first, TryGet::Again(missed) if missed == FIRST));
-    let second = table.try_get(&mut seat, hash, |key: &u64| *key == 1)?;
-    assert!(rt; matches!(second, TryGet::Found(Some(10))));
+    let first = table.try_get(&mut seat, hash, |key: &u64| *key == 1);
+    let second = table.try_get(&mut seat, hash, |key: &u64| *key == 1);
+    let told = [insert_told(&put), get_told(&first), get_told(&second)];
+    assert_eq!(rt; told, [Inserted, Again(FIRST), Value(10)]);
     Ok(())
 }
 
@@ -95,26 +94,16 @@ fn a_look_whose_node_was_hidden_finds_it_the_next_time(rt: HostRuntime) -> Resul
 fn a_pass_whose_node_was_hidden_goes_on_the_next_time(rt: HostRuntime) -> Result<(), Fail> {
     let table = empty(rt.alloc())?;
     let mut seat = table.seat();
-    let mut other = table.seat();
     let hash = table.hash(&1);
     let put = table.try_insert_if_not_present(&mut seat, 1, hash, 10);
-    assert!(rt; matches!(put, TryInsert::Inserted));
     let first = table.try_insert_if_not_present(&mut seat, 1, hash, 11);
-    assert!(rt; matches!(first, TryInsert::Again { missed, key: 1, value: 11 } if missed == FIRST));
     let second = table.try_insert_if_not_present(&mut seat, 1, hash, 11);
-    assert!(rt;
-        matches!(
-            second,
-            TryInsert::Present {
-                found: 10,
-                key: 1,
-                value: 11
-            }
-        )
-    );
-    let third = table.try_remove(&mut other, &1, hash);
-    assert!(rt; matches!(third, TryChange::Again(missed) if missed == FIRST));
-    let fourth = table.try_remove(&mut other, &1, hash);
-    assert!(rt; matches!(fourth, TryChange::Changed(10)));
+    let told = [insert_told(&put), insert_told(&first), insert_told(&second)];
+    assert_eq!(rt; told, [Inserted, PutBack(FIRST, 1, 11), Present(10, 1, 11)]);
+    let mut other = table.seat();
+    let first = table.try_remove(&mut other, &1, hash);
+    let second = table.try_remove(&mut other, &1, hash);
+    let told = [change_told(&first), change_told(&second)];
+    assert_eq!(rt; told, [Again(FIRST), Value(10)]);
     Ok(())
 }

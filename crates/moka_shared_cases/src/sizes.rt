@@ -1,77 +1,46 @@
 //! Tables of few words and of many, one of which is full; and keys of one hash.
 
-use crate::calls::Caller;
 use crate::hashers::BuildLast;
-use crate::seats::Table;
-use moka_shared::{HashMap, Missed, TryInsert};
-use std::hash::BuildHasherDefault;
+use crate::rows::Deed::{Get, GetAll, Put, PutAll, Segments};
+use crate::rows::Told::{Count, Inserted, Nothing, PutBack, Value};
+use crate::rows::{Row, wrong_row};
+use crate::seats::fold;
+use moka_shared::Missed;
 use std::test::*;
-
-// Of how many words an array is that has no bucket for the key.
-fn full(answer: &TryInsert<u64, u64>) -> Option<(usize, u64, u64)> {
-    match answer {
-        TryInsert::Again {
-            missed: Missed::NoFree { length },
-            key,
-            value,
-        } => Some((*length, *key, *value)),
-        _ => None,
-    }
-}
 
 #[test]
 fn a_full_segment_has_no_free_bucket(rt: HostRuntime) -> Result<(), Fail> {
-    let table: Table = HashMap::with_num_segments_capacity_and_hasher(
-        rt.alloc(),
-        1,
-        64,
-        BuildHasherDefault::new(),
-    )?;
-    let mut caller = Caller::new(&table);
-    for key in 0..128u64 {
-        assert!(rt; caller.is_put(key, key), "{key}");
-    }
-    let last = caller.put(128, 5);
-    assert_eq!(rt; full(&last), Some((128, 128, 5)));
-    for key in 0..128u64 {
-        assert_eq!(rt; caller.value_of(key), Some(key));
-    }
-    assert_eq!(rt; caller.value_of(128), None);
+    let full = Missed::NoFree { length: 128 };
+    let rows = [
+        Row(PutAll(0, 128), Count(128)),
+        Row(Put(128, 5), PutBack(full, 128, 5)),
+        Row(GetAll(0, 128), Count(128)),
+        Row(Get(128), Nothing),
+    ];
+    assert_eq!(rt; wrong_row(rt.alloc(), 1, 64, fold(), &rows)?, None);
     Ok(())
 }
 
 #[test]
 fn keys_of_one_hash_wrap(rt: HostRuntime) -> Result<(), Fail> {
-    let table: HashMap<u64, u64, BuildLast> = HashMap::with_num_segments_capacity_and_hasher(
-        rt.alloc(),
-        3,
-        24,
-        BuildLast {},
-    )?;
-    assert_eq!(rt; table.actual_num_segments(), 4);
-    let mut caller = Caller::new(&table);
-    for key in 0..16u64 {
-        assert!(rt; caller.is_put(key, key), "{key}");
-    }
-    let last = caller.put(16, 5);
-    assert_eq!(rt; full(&last), Some((16, 16, 5)));
-    for key in 0..16u64 {
-        assert_eq!(rt; caller.value_of(key), Some(key));
-    }
+    let full = Missed::NoFree { length: 16 };
+    let rows = [
+        Row(Segments, Count(4)),
+        Row(PutAll(0, 16), Count(16)),
+        Row(Put(16, 5), PutBack(full, 16, 5)),
+        Row(GetAll(0, 16), Count(16)),
+    ];
+    assert_eq!(rt; wrong_row(rt.alloc(), 3, 24, BuildLast {}, &rows)?, None);
     Ok(())
 }
 
 #[test]
 fn the_most_segments_have_a_word_each(rt: HostRuntime) -> Result<(), Fail> {
-    let table: Table = HashMap::with_num_segments_capacity_and_hasher(
-        rt.alloc(),
-        65_536,
-        1,
-        BuildHasherDefault::new(),
-    )?;
-    let mut caller = Caller::new(&table);
-    assert!(rt; caller.is_put(1, 10));
-    assert_eq!(rt; caller.value_of(1), Some(10));
-    assert_eq!(rt; table.actual_num_segments(), 65_536);
+    let rows = [
+        Row(Put(1, 10), Inserted),
+        Row(Get(1), Value(10)),
+        Row(Segments, Count(65_536)),
+    ];
+    assert_eq!(rt; wrong_row(rt.alloc(), 65_536, 1, fold(), &rows)?, None);
     Ok(())
 }

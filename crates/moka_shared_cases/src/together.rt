@@ -2,20 +2,15 @@
 //! made again.
 
 use crate::calls::Caller;
-use crate::seats::Table;
-use moka_shared::{HashMap, TryInsert};
-use std::hash::{BuildHasherDefault, FoldHasher};
+use crate::seats::{Fold, Table, of_capacity};
+use moka_shared::TryInsert;
 use std::sync::Wait;
 use std::test::*;
 use std::thread;
 use std::thread::Threads;
 
 // Puts the pair, however often the pass has to be made again. Tells whether this call put it.
-fn puts<R: Wait>(
-    rt: &R,
-    caller: &mut Caller<'_, BuildHasherDefault<FoldHasher>>,
-    key: u64,
-) -> bool {
+fn puts<R: Wait>(rt: &R, caller: &mut Caller<'_, Fold>, key: u64) -> bool {
     for _ in rt.forever() {
         match caller.put(key, key) {
             TryInsert::Inserted => return true,
@@ -69,27 +64,26 @@ fn put_by_four<R: Threads + Wait + Sync>(
     left.wrapping_add(right)
 }
 
+// How many keys before the end are found.
+fn found(table: &Table, end: u64) -> usize {
+    Caller::new(table).get_all(0, end)
+}
+
 #[test]
 fn what_four_threads_put_all_find(rt: HostRuntime) -> Result<(), Fail> {
-    let table: Table = HashMap::with_capacity(rt.alloc(), 40_000, BuildHasherDefault::new())?;
+    let table = of_capacity(rt.alloc(), 40_000)?;
     assert_eq!(rt;
         put_by_four(&rt, &table, [0, 10_000, 20_000, 30_000], 10_000),
         40_000
     );
-    let mut caller = Caller::new(&table);
-    for key in 0..40_000u64 {
-        assert_eq!(rt; caller.value_of(key), Some(key));
-    }
+    assert_eq!(rt; found(&table, 40_000), 40_000);
     Ok(())
 }
 
 #[test]
 fn a_key_of_four_threads_is_put_once(rt: HostRuntime) -> Result<(), Fail> {
-    let table: Table = HashMap::with_capacity(rt.alloc(), 1024, BuildHasherDefault::new())?;
+    let table = of_capacity(rt.alloc(), 1024)?;
     assert_eq!(rt; put_by_four(&rt, &table, [0, 0, 0, 0], 512), 512);
-    let mut caller = Caller::new(&table);
-    for key in 0..512u64 {
-        assert_eq!(rt; caller.value_of(key), Some(key));
-    }
+    assert_eq!(rt; found(&table, 512), 512);
     Ok(())
 }

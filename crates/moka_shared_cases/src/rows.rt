@@ -1,0 +1,164 @@
+//! Worked cases as rows: what is done with a table, and what it tells.
+
+use crate::calls::Caller;
+use moka_shared::{HashMap, Missed, TryChange, TryGet, TryInsert, TrySeal, Unopened};
+use moka_words::Word;
+use std::alloc::{AllocError, Global};
+use std::hash::BuildHasher;
+
+/// What is done with a table.
+#[derive(Clone, Copy)]
+pub(crate) enum Deed {
+    /// It is asked how many segments it has.
+    Segments,
+    /// The pair is put where its key is absent.
+    Put(u64, u64),
+    /// The value is put in place of the one under the key.
+    Replace(u64, u64),
+    /// The pair of the key is removed.
+    Remove(u64),
+    /// The key is looked for.
+    Get(u64),
+    /// Each key from the first one up to the last is put with itself as its value, and counted where
+    /// it is.
+    PutAll(u64, u64),
+    /// Each of them is looked for, and counted where it is found with itself as its value.
+    GetAll(u64, u64),
+    /// A row of so many words is made for the first segment.
+    Open(usize),
+    /// The word of this bucket of the first segment is sealed.
+    Seal(usize),
+    /// The words of the first segment before this bucket are sealed, and counted where they were
+    /// empty.
+    SealAll(usize),
+}
+
+/// What is told of it.
+#[derive(Clone, Copy, PartialEq, Eq, Debug)]
+pub(crate) enum Told {
+    /// The pair is put.
+    Inserted,
+    /// The first value stands there, and the pair after it comes back.
+    Present(u64, u64, u64),
+    /// The pair comes back, since the pass has to be made again.
+    PutBack(Missed, u64, u64),
+    /// This value was found, changed or removed.
+    Value(u64),
+    /// The key is absent.
+    Nothing,
+    /// The pass has to be made again.
+    Again(Missed),
+    /// Memory is wanting.
+    Memory,
+    /// A row has so many words, and this ticket.
+    Row(usize, u64),
+    /// This word stands there for good.
+    Sealed(Word),
+    /// There are so many.
+    Count(usize),
+}
+
+/// What is done, and what is told of it.
+#[derive(Clone, Copy)]
+pub(crate) struct Row(pub(crate) Deed, pub(crate) Told);
+
+/// A row of which another thing is told, by its place, with that.
+#[derive(Clone, Copy, PartialEq, Eq, Debug)]
+pub(crate) struct Wrong(usize, Told);
+
+/// Plays the rows on a new table of so many segments for so many pairs, and gives the first of which
+/// another thing is told.
+pub(crate) fn wrong_row<S: BuildHasher + Drop>(
+    alloc: Global,
+    segments: usize,
+    capacity: usize,
+    hasher: S,
+    rows: &[Row],
+) -> Result<Option<Wrong>, AllocError> {
+    let table: HashMap<u64, u64, S> = HashMap::with_num_segments_capacity_and_hasher(
+        alloc, segments, capacity, hasher,
+    )?;
+    let wrong = wrong_row_on(alloc, &table, rows);
+    table.close();
+    Ok(wrong)
+}
+
+// Plays the rows on this table.
+fn wrong_row_on<S: BuildHasher + Drop>(
+    alloc: Global,
+    table: &HashMap<u64, u64, S>,
+    rows: &[Row],
+) -> Option<Wrong> {
+    let mut caller = Caller::new(table);
+    for (place, row) in rows.iter().enumerate() {
+        let told = tell(alloc, &mut caller, row.0);
+        if told != row.1 {
+            return Some(Wrong(place, told));
+        }
+    }
+    None
+}
+
+// Does it, and tells what came of it.
+fn tell<S: BuildHasher + Drop>(alloc: Global, caller: &mut Caller<'_, S>, deed: Deed) -> Told {
+    match deed {
+        Deed::Segments => Told::Count(caller.segments()),
+        Deed::Put(key, value) => insert_told(&caller.put(key, value)),
+        Deed::Replace(key, value) => change_told(&caller.replace(key, value)),
+        Deed::Remove(key) => change_told(&caller.remove(key)),
+        Deed::Get(key) => get_told(&caller.get(key)),
+        Deed::PutAll(first, end) => Told::Count(caller.put_all(first, end)),
+        Deed::GetAll(first, end) => Told::Count(caller.get_all(first, end)),
+        Deed::Open(length) => row_told(caller.row(alloc, length)),
+        Deed::Seal(index) => seal_told(caller.seal(index)),
+        Deed::SealAll(end) => Told::Count(caller.seal_all(end)),
+    }
+}
+
+/// What is told of an insert.
+pub(crate) fn insert_told(answer: &TryInsert<u64, u64>) -> Told {
+    match answer {
+        TryInsert::Inserted => Told::Inserted,
+        TryInsert::Present { found, key, value } => Told::Present(*found, *key, *value),
+        TryInsert::Again { missed, key, value } => Told::PutBack(*missed, *key, *value),
+        TryInsert::Memory { .. } => Told::Memory,
+    }
+}
+
+/// What is told of a change.
+pub(crate) fn change_told(answer: &TryChange<u64>) -> Told {
+    match answer {
+        TryChange::Changed(former) => Told::Value(*former),
+        TryChange::Absent => Told::Nothing,
+        TryChange::Again(missed) => Told::Again(*missed),
+        TryChange::Memory => Told::Memory,
+    }
+}
+
+/// What is told of a look.
+pub(crate) fn get_told(answer: &Result<TryGet<u64>, AllocError>) -> Told {
+    match answer {
+        Ok(TryGet::Found(Some(value))) => Told::Value(*value),
+        Ok(TryGet::Found(None)) => Told::Nothing,
+        Ok(TryGet::Again(missed)) => Told::Again(*missed),
+        Err(_) => Told::Memory,
+    }
+}
+
+// What is told of a row.
+fn row_told(row: Result<(usize, u64), Unopened>) -> Told {
+    match row {
+        Ok((length, ticket)) => Told::Row(length, ticket),
+        Err(Unopened::Again(missed)) => Told::Again(missed),
+        Err(Unopened::Memory) => Told::Memory,
+    }
+}
+
+// What is told of a seal.
+fn seal_told(seal: Option<TrySeal>) -> Told {
+    match seal {
+        Some(TrySeal::Sealed(word)) => Told::Sealed(word),
+        Some(TrySeal::Again(missed)) => Told::Again(missed),
+        None => Told::Nothing,
+    }
+}
