@@ -1,5 +1,6 @@
 //! Computes on an entry.
 
+use crate::playing::play;
 use moka_cache_runs::asks::Asked::{Never, Starts};
 use moka_cache_runs::asks::{NOBODY, Told};
 use moka_cache_runs::calls::Call::{Lent, Own};
@@ -15,7 +16,7 @@ use moka_cache_runs::replies::Reply::{
 };
 use moka_cache_runs::replies::Seen::{Found, Fresh, Replaced};
 use moka_cache_runs::rows::Event::{Both, DropFirst, Run};
-use moka_cache_runs::rows::{Row, wrong_row};
+use moka_cache_runs::rows::Row;
 use std::test::Fail;
 
 #[test]
@@ -33,32 +34,17 @@ fn one_beside_another_compute_is_not_started(rt: HostRuntime) -> Result<(), Fail
             Told(Unchanged(Found(1, 5)), 0, Never),
         ),
     ];
-    assert_eq!(rt; wrong_row(&rt, 100, &rows)?, None);
-    Ok(())
+    play(&rt, 100, &rows)
 }
 
 #[test]
 fn one_that_is_alone_is_started(rt: HostRuntime) -> Result<(), Fail> {
-    let put = Own(1, Compute(TryComputeIfNobodyElse(Gives(1, Put(7)))));
-    let cases = [
-        (
-            100,
-            Told(ReplacedWith(Replaced(1, 7)), 2, Starts(1, Some(5))),
-        ),
-        (0, Told(Inserted(Fresh(1, 7)), 2, Starts(1, None))),
-    ];
-    for (capacity, told) in cases {
-        let rows = [
-            Row(Run(Own(1, OfKey(Insert(5)))), Told(Done, 0, Never), NOBODY),
-            Row(Run(put), told, NOBODY),
-        ];
-        assert_eq!(rt;
-            wrong_row(&rt, capacity, &rows)?,
-            None,
-            "at capacity {capacity}"
-        );
-    }
-    Ok(())
+    let put = Run(Own(1, Compute(TryComputeIfNobodyElse(Gives(1, Put(7))))));
+    let store = Row(Run(Own(1, OfKey(Insert(5)))), Told(Done, 0, Never), NOBODY);
+    let replaced = Told(ReplacedWith(Replaced(1, 7)), 2, Starts(1, Some(5)));
+    play(&rt, 100, &[store, Row(put, replaced, NOBODY)])?;
+    let inserted = Told(Inserted(Fresh(1, 7)), 2, Starts(1, None));
+    play(&rt, 0, &[store, Row(put, inserted, NOBODY)])
 }
 
 #[test]
@@ -91,8 +77,7 @@ fn computes_do_what_they_are_told(rt: HostRuntime) -> Result<(), Fail> {
         ),
         Row(Run(remove), Told(StillNone(1), 2, Starts(1, None)), NOBODY),
     ];
-    assert_eq!(rt; wrong_row(&rt, 100, &rows)?, None);
-    Ok(())
+    play(&rt, 100, &rows)
 }
 
 #[test]
@@ -114,8 +99,7 @@ fn what_is_stored_meanwhile_is_taken_out(rt: HostRuntime) -> Result<(), Fail> {
             Told(Done, 0, Never),
         ),
     ];
-    assert_eq!(rt; wrong_row(&rt, 100, &rows)?, None);
-    Ok(())
+    play(&rt, 100, &rows)
 }
 
 #[test]
@@ -128,8 +112,7 @@ fn upserts_count(rt: HostRuntime) -> Result<(), Fail> {
         rows.push(Row(upsert, Told(stored, 2, Starts(1, Some(times))), NOBODY))?;
     }
     rows.push(Row(Run(Lent(1, OfKey(Get))), Told(Value(99), 0, Never), NOBODY))?;
-    assert_eq!(rt; wrong_row(&rt, 100, &rows)?, None);
-    Ok(())
+    play(&rt, 100, &rows)
 }
 
 #[test]
@@ -145,8 +128,7 @@ fn a_failed_compute_leaves_the_value_to_the_next(rt: HostRuntime) -> Result<(), 
             Told(Unchanged(Found(1, 7)), 2, Starts(1, Some(7))),
         ),
     ];
-    assert_eq!(rt; wrong_row(&rt, 100, &rows)?, None);
-    Ok(())
+    play(&rt, 100, &rows)
 }
 
 #[test]
@@ -156,8 +138,7 @@ fn a_compute_begins_anew_once_its_owner_is_dropped(rt: HostRuntime) -> Result<()
     let dropped = Told(Dropped, 2, Starts(1, None));
     let inserted = Told(Inserted(Fresh(1, 6)), 2, Starts(1, None));
     let rows = [Row(DropFirst(2, one, other), dropped, inserted)];
-    assert_eq!(rt; wrong_row(&rt, 100, &rows)?, None);
-    Ok(())
+    play(&rt, 100, &rows)
 }
 
 #[test]
@@ -173,6 +154,5 @@ fn a_disabled_cache_is_asked_with_nothing(rt: HostRuntime) -> Result<(), Fail> {
         NOBODY,
     );
     let rows = [put, upsert, put, upsert];
-    assert_eq!(rt; wrong_row(&rt, 0, &rows)?, None);
-    Ok(())
+    play(&rt, 0, &rows)
 }

@@ -1,5 +1,6 @@
 //! Loads of entries.
 
+use crate::playing::play;
 use moka_cache_runs::asks::Asked::Never;
 use moka_cache_runs::asks::{NOBODY, Told};
 use moka_cache_runs::calls::Call::{Lent, Own};
@@ -12,7 +13,7 @@ use moka_cache_runs::calls::OfKey::Get;
 use moka_cache_runs::replies::Reply::{Entry, Error, Nothing, Value};
 use moka_cache_runs::replies::Seen::{Found, Fresh};
 use moka_cache_runs::rows::Event::{Both, Run};
-use moka_cache_runs::rows::{Row, wrong_row};
+use moka_cache_runs::rows::Row;
 use std::test::Fail;
 
 #[test]
@@ -24,8 +25,7 @@ fn the_entry_of_the_owner_is_fresh(rt: HostRuntime) -> Result<(), Fail> {
         Told(Entry(Found(1, 5)), 0, Never),
     );
     let rows = [Row(Both(one, other), told.0, told.1)];
-    assert_eq!(rt; wrong_row(&rt, 100, &rows)?, None);
-    Ok(())
+    play(&rt, 100, &rows)
 }
 
 #[test]
@@ -46,8 +46,7 @@ fn entries_tell_nothing_and_errors(rt: HostRuntime) -> Result<(), Fail> {
         ),
         Row(Both(found, unasked), told.0, told.1),
     ];
-    assert_eq!(rt; wrong_row(&rt, 100, &rows)?, None);
-    Ok(())
+    play(&rt, 100, &rows)
 }
 
 #[test]
@@ -65,8 +64,7 @@ fn a_value_is_stored_where_there_is_none(rt: HostRuntime) -> Result<(), Fail> {
         ),
         Row(Run(Lent(1, OfKey(Get))), Told(Value(0), 0, Never), NOBODY),
     ];
-    assert_eq!(rt; wrong_row(&rt, 100, &rows)?, None);
-    Ok(())
+    play(&rt, 100, &rows)
 }
 
 #[test]
@@ -98,8 +96,7 @@ fn a_cache_of_capacity_0_stores_no_entry(rt: HostRuntime) -> Result<(), Fail> {
         Row(Both(found, gave), each.0, each.1),
         Row(Run(Lent(1, OfKey(Get))), Told(Nothing, 0, Never), NOBODY),
     ];
-    assert_eq!(rt; wrong_row(&rt, 0, &rows)?, None);
-    Ok(())
+    play(&rt, 0, &rows)
 }
 
 // It joins nobody.
@@ -115,6 +112,5 @@ fn a_value_is_stored_beside_a_load(rt: HostRuntime) -> Result<(), Fail> {
         Row(Both(load, store), told.0, told.1),
         Row(Run(Lent(1, OfKey(Get))), Told(Value(5), 0, Never), NOBODY),
     ];
-    assert_eq!(rt; wrong_row(&rt, 100, &rows)?, None);
-    Ok(())
+    play(&rt, 100, &rows)
 }

@@ -1,5 +1,6 @@
 //! Records that expire, by a time to live or by a time to idle.
 
+use crate::playing::play_on;
 use moka_cache::CacheBuilder;
 use moka_cache_runs::asks::Asked::{Never, Starts, Tests};
 use moka_cache_runs::asks::{NOBODY, Told};
@@ -17,7 +18,7 @@ use moka_cache_runs::replies::Reply::{
 };
 use moka_cache_runs::replies::Seen::{Found, Fresh};
 use moka_cache_runs::rows::Event::{Both, HasAt, Run, RunAt};
-use moka_cache_runs::rows::{Row, wrong_row_on};
+use moka_cache_runs::rows::Row;
 use std::alloc::Global;
 use std::test::Fail;
 use std::time::Duration;
@@ -51,9 +52,7 @@ fn asking_for_a_key_is_no_access(rt: HostRuntime) -> Result<(), Fail> {
         Row(RunAt(10, GET), told(Nothing), NOBODY),
         Row(HasAt(10, 1), told(Is(false)), NOBODY),
     ];
-    let cache = idling(rt.alloc(), 10)?;
-    assert_eq!(rt; wrong_row_on(&rt, &cache, &rows)?, None);
-    Ok(())
+    play_on(&rt, idling(rt.alloc(), 10)?, &rows)
 }
 
 #[test]
@@ -65,9 +64,7 @@ fn a_look_puts_the_time_to_idle_off(rt: HostRuntime) -> Result<(), Fail> {
         Row(RunAt(28, GET), told(Nothing), NOBODY),
         Row(RunAt(28, GET), told(Nothing), NOBODY),
     ];
-    let cache = idling(rt.alloc(), 10)?;
-    assert_eq!(rt; wrong_row_on(&rt, &cache, &rows)?, None);
-    Ok(())
+    play_on(&rt, idling(rt.alloc(), 10)?, &rows)
 }
 
 #[test]
@@ -80,9 +77,7 @@ fn a_look_puts_no_time_to_live_off(rt: HostRuntime) -> Result<(), Fail> {
         Row(RunAt(19, GET), told(Value(5)), NOBODY),
         Row(RunAt(20, GET), told(Nothing), NOBODY),
     ];
-    let cache = living(rt.alloc(), 10)?;
-    assert_eq!(rt; wrong_row_on(&rt, &cache, &rows)?, None);
-    Ok(())
+    play_on(&rt, living(rt.alloc(), 10)?, &rows)
 }
 
 #[test]
@@ -98,9 +93,7 @@ fn a_waiter_is_told_what_has_expired(rt: HostRuntime) -> Result<(), Fail> {
         Row(Run(GET), told(Nothing), NOBODY),
         Row(Run(other), Told(Value(8), 1, Never), NOBODY),
     ];
-    let cache = living(rt.alloc(), 0)?;
-    assert_eq!(rt; wrong_row_on(&rt, &cache, &rows)?, None);
-    Ok(())
+    play_on(&rt, living(rt.alloc(), 0)?, &rows)
 }
 
 #[test]
@@ -115,9 +108,7 @@ fn what_has_expired_is_loaded_anew(rt: HostRuntime) -> Result<(), Fail> {
         Row(RunAt(38, INSERT), told(Done), NOBODY),
         Row(RunAt(48, tested), Told(Value(9), 1, Tests(2)), NOBODY),
     ];
-    let cache = idling(rt.alloc(), 10)?;
-    assert_eq!(rt; wrong_row_on(&rt, &cache, &rows)?, None);
-    Ok(())
+    play_on(&rt, idling(rt.alloc(), 10)?, &rows)
 }
 
 #[test]
@@ -144,9 +135,7 @@ fn a_compute_is_started_without_what_has_expired(rt: HostRuntime) -> Result<(), 
         ),
         Row(RunAt(29, GET), told(Value(1)), NOBODY),
     ];
-    let cache = living(rt.alloc(), 10)?;
-    assert_eq!(rt; wrong_row_on(&rt, &cache, &rows)?, None);
-    Ok(())
+    play_on(&rt, living(rt.alloc(), 10)?, &rows)
 }
 
 // It stays stored until then.
@@ -166,7 +155,5 @@ fn what_has_expired_can_be_taken_out(rt: HostRuntime) -> Result<(), Fail> {
             NOBODY,
         ),
     ];
-    let cache = idling(rt.alloc(), 10)?;
-    assert_eq!(rt; wrong_row_on(&rt, &cache, &rows)?, None);
-    Ok(())
+    play_on(&rt, idling(rt.alloc(), 10)?, &rows)
 }

@@ -1,5 +1,6 @@
 //! Loads that fail, or find nothing.
 
+use crate::playing::play;
 use moka_cache_runs::asks::Asked::Never;
 use moka_cache_runs::asks::{NOBODY, Told};
 use moka_cache_runs::calls::Call::{Lent, Own};
@@ -9,7 +10,7 @@ use moka_cache_runs::calls::Load::{GetWith, OptionallyGetWith, TryGetWith};
 use moka_cache_runs::calls::OfKey::{Get, Remove};
 use moka_cache_runs::replies::Reply::{Dropped, Error, Nothing, Value};
 use moka_cache_runs::rows::Event::{Both, DropFirst, Run};
-use moka_cache_runs::rows::{Row, wrong_row};
+use moka_cache_runs::rows::Row;
 use std::test::Fail;
 
 #[test]
@@ -25,8 +26,7 @@ fn an_error_goes_to_all_that_wait_and_is_not_stored(rt: HostRuntime) -> Result<(
         ),
         Row(Run(anew), Told(Value(7), 1, Never), NOBODY),
     ];
-    assert_eq!(rt; wrong_row(&rt, 100, &rows)?, None);
-    Ok(())
+    play(&rt, 100, &rows)
 }
 
 #[test]
@@ -35,8 +35,7 @@ fn a_waiter_tries_once_the_owner_is_dropped(rt: HostRuntime) -> Result<(), Fail>
     let other = Own(1, Load(TryGetWith(Gives(1, Err(4)))));
     let told = (Told(Dropped, 2, Never), Told(Error(4), 2, Never));
     let rows = [Row(DropFirst(2, one, other), told.0, told.1)];
-    assert_eq!(rt; wrong_row(&rt, 100, &rows)?, None);
-    Ok(())
+    play(&rt, 100, &rows)
 }
 
 #[test]
@@ -51,8 +50,7 @@ fn nothing_goes_to_all_that_wait_and_is_not_stored(rt: HostRuntime) -> Result<()
         ),
         Row(Run(Lent(1, OfKey(Get))), Told(Nothing, 0, Never), NOBODY),
     ];
-    assert_eq!(rt; wrong_row(&rt, 100, &rows)?, None);
-    Ok(())
+    play(&rt, 100, &rows)
 }
 
 #[test]
@@ -78,8 +76,7 @@ fn loads_of_two_kinds_run_two_initializers(rt: HostRuntime) -> Result<(), Fail> 
             Told(Error(8), 1, Never),
         ),
     ];
-    assert_eq!(rt; wrong_row(&rt, 100, &rows)?, None);
-    Ok(())
+    play(&rt, 100, &rows)
 }
 
 #[test]
@@ -100,6 +97,5 @@ fn a_cache_of_capacity_0_asks_each_time(rt: HostRuntime) -> Result<(), Fail> {
         Row(Run(Own(1, failed.1)), Told(Error(6), 1, Never), NOBODY),
         Row(Run(Lent(1, OfKey(Get))), Told(Nothing, 0, Never), NOBODY),
     ];
-    assert_eq!(rt; wrong_row(&rt, 0, &rows)?, None);
-    Ok(())
+    play(&rt, 0, &rows)
 }

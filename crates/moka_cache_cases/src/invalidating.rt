@@ -1,5 +1,6 @@
 //! Invalidation of all records.
 
+use crate::playing::play;
 use moka_cache_runs::asks::Asked::{Never, Starts};
 use moka_cache_runs::asks::{NOBODY, Told};
 use moka_cache_runs::calls::Call::{self, Lent, Own};
@@ -12,7 +13,7 @@ use moka_cache_runs::inits::Act;
 use moka_cache_runs::replies::Reply::{self, Counts, Done, Inserted, Is, Nothing, Value};
 use moka_cache_runs::replies::Seen::Fresh;
 use moka_cache_runs::rows::Event::{Count, HasAt, InvalidateAll, Run, RunAt};
-use moka_cache_runs::rows::{Row, wrong_row};
+use moka_cache_runs::rows::Row;
 use std::test::Fail;
 
 const INSERT: Call = Own(1, OfKey(Insert(5)));
@@ -38,8 +39,7 @@ fn what_was_written_before_is_hidden(rt: HostRuntime) -> Result<(), Fail> {
         Row(RunAt(9, GET), told(Value(5)), NOBODY),
         Row(HasAt(9, 1), told(Is(true)), NOBODY),
     ];
-    assert_eq!(rt; wrong_row(&rt, 100, &rows)?, None);
-    Ok(())
+    play(&rt, 100, &rows)
 }
 
 #[test]
@@ -51,8 +51,7 @@ fn a_moment_before_the_clock_counts_as_the_clock(rt: HostRuntime) -> Result<(), 
         Row(RunAt(6, GET), told(Nothing), NOBODY),
         Row(RunAt(6, Lent(2, OfKey(Get))), told(Value(6)), NOBODY),
     ];
-    assert_eq!(rt; wrong_row(&rt, 100, &rows)?, None);
-    Ok(())
+    play(&rt, 100, &rows)
 }
 
 #[test]
@@ -66,8 +65,7 @@ fn what_is_hidden_stays_stored(rt: HostRuntime) -> Result<(), Fail> {
     rows.push(Row(HasAt(1, 9), told(Is(false)), NOBODY))?;
     rows.push(Row(RunAt(1, Own(9, OfKey(Remove))), told(Value(9)), NOBODY))?;
     rows.push(Row(RunAt(1, Own(9, OfKey(Remove))), told(Nothing), NOBODY))?;
-    assert_eq!(rt; wrong_row(&rt, 1000, &rows)?, None);
-    Ok(())
+    play(&rt, 1000, &rows)
 }
 
 #[test]
@@ -87,8 +85,7 @@ fn what_is_hidden_is_stored_anew(rt: HostRuntime) -> Result<(), Fail> {
         ),
         Row(RunAt(2, GET), told(Value(7)), NOBODY),
     ];
-    assert_eq!(rt; wrong_row(&rt, 100, &rows)?, None);
-    Ok(())
+    play(&rt, 100, &rows)
 }
 
 #[test]
@@ -98,6 +95,5 @@ fn a_disabled_cache_has_nothing_to_hide(rt: HostRuntime) -> Result<(), Fail> {
         Row(InvalidateAll(1), told(Done), NOBODY),
         Row(RunAt(1, GET), told(Nothing), NOBODY),
     ];
-    assert_eq!(rt; wrong_row(&rt, 0, &rows)?, None);
-    Ok(())
+    play(&rt, 0, &rows)
 }

@@ -28,6 +28,8 @@ mod loading;
 #[cfg(test)]
 mod naming;
 #[cfg(test)]
+mod playing;
+#[cfg(test)]
 mod removing;
 #[cfg(test)]
 mod replacing;

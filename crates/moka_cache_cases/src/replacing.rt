@@ -1,5 +1,6 @@
 //! Loads that are made anew where a test holds on the value that is there.
 
+use crate::playing::play;
 use moka_cache_runs::asks::Asked::{Never, Tests};
 use moka_cache_runs::asks::{NOBODY, Told};
 use moka_cache_runs::calls::Call::{Lent, Own};
@@ -12,7 +13,7 @@ use moka_cache_runs::calls::Test::{Always, IfEven};
 use moka_cache_runs::replies::Reply::{Done, Entry, Value};
 use moka_cache_runs::replies::Seen::{Found, Fresh};
 use moka_cache_runs::rows::Event::{Both, Run};
-use moka_cache_runs::rows::{Row, wrong_row};
+use moka_cache_runs::rows::Row;
 use std::test::Fail;
 
 #[test]
@@ -25,8 +26,7 @@ fn a_value_on_which_the_test_holds_is_loaded_anew(rt: HostRuntime) -> Result<(),
         Row(Run(again), Told(Value(5), 0, Tests(1)), NOBODY),
         Row(Run(Lent(1, OfKey(Get))), Told(Value(5), 0, Never), NOBODY),
     ];
-    assert_eq!(rt; wrong_row(&rt, 100, &rows)?, None);
-    Ok(())
+    play(&rt, 100, &rows)
 }
 
 #[test]
@@ -37,8 +37,7 @@ fn an_entry_that_was_loaded_anew_is_fresh(rt: HostRuntime) -> Result<(), Fail> {
         Row(Run(load), Told(Entry(Fresh(1, 7)), 2, Tests(2)), NOBODY),
         Row(Run(load), Told(Entry(Found(1, 7)), 0, Tests(1)), NOBODY),
     ];
-    assert_eq!(rt; wrong_row(&rt, 100, &rows)?, None);
-    Ok(())
+    play(&rt, 100, &rows)
 }
 
 // Its test would hold on 5.
@@ -48,8 +47,7 @@ fn the_test_of_a_waiter_is_not_asked(rt: HostRuntime) -> Result<(), Fail> {
     let other = Own(1, Load(GetWithIf(Gives(0, 6), Always)));
     let told = (Told(Value(5), 3, Never), Told(Value(5), 0, Never));
     let rows = [Row(Both(one, other), told.0, told.1)];
-    assert_eq!(rt; wrong_row(&rt, 100, &rows)?, None);
-    Ok(())
+    play(&rt, 100, &rows)
 }
 
 // The owner asks it of two looks, and the waiter of its first.
@@ -62,8 +60,7 @@ fn a_load_asks_its_test_of_its_own_looks_alone(rt: HostRuntime) -> Result<(), Fa
         Row(Run(Own(1, OfKey(Insert(4)))), Told(Done, 0, Never), NOBODY),
         Row(Both(one, other), told.0, told.1),
     ];
-    assert_eq!(rt; wrong_row(&rt, 100, &rows)?, None);
-    Ok(())
+    play(&rt, 100, &rows)
 }
 
 #[test]
@@ -84,6 +81,5 @@ fn a_cache_of_capacity_0_asks_no_test(rt: HostRuntime) -> Result<(), Fail> {
             NOBODY,
         ),
     ];
-    assert_eq!(rt; wrong_row(&rt, 0, &rows)?, None);
-    Ok(())
+    play(&rt, 0, &rows)
 }

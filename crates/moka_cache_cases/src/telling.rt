@@ -1,5 +1,6 @@
 //! What the errors of calls tell.
 
+use crate::playing::Runtime;
 use futures::future::err;
 use moka_cache::{Cache, CacheBuilder, LoadError, PollError, RetriesExhausted};
 use moka_cache_runs::caches::Numbers;
@@ -11,29 +12,41 @@ use std::random::RandomSource;
 use std::sync::Wait;
 use std::test::Fail;
 
-/// The text of any error.
-fn text_of<R: AllocGlobal, E: Error>(rt: &R, error: &E) -> Result<String, Fail> {
-    Ok(format!(in rt.alloc(); "{error}")?)
+/// Whether this is the text of any error.
+pub(crate) fn has_text<R: Runtime, E: Error>(rt: &R, error: &E, text: &str) -> bool {
+    match format!(in rt.alloc(); "{error}") {
+        Ok(told) => told.as_str() == text,
+        Err(_) => false,
+    }
+}
+
+/// Whether the error is of this kind, and has this text.
+pub(crate) fn is_io_error<R: Runtime>(
+    rt: &R,
+    error: &io::Error,
+    kind: ErrorKind,
+    text: &str,
+) -> bool {
+    error.kind() == kind && has_text(rt, error, text)
 }
 
 #[test]
-fn errors_tell_why_there_is_no_answer(rt: HostRuntime) -> Result<(), Fail> {
-    let spent = text_of(&rt, &PollError::CallsSpent)?;
-    assert_eq!(rt; spent.as_str(), "no call number is left");
-    let memory = text_of(&rt, &PollError::Memory)?;
-    assert_eq!(rt; memory.as_str(), "out of memory");
+fn errors_tell_why_there_is_no_answer(rt: HostRuntime) {
     let given_up = "200 owners of the load were dropped";
-    let exhausted = text_of(&rt, &RetriesExhausted)?;
-    assert_eq!(rt; exhausted.as_str(), given_up);
     let load: LoadError<io::Error> = LoadError::RetriesExhausted;
-    assert_eq!(rt; text_of(&rt, &load)?.as_str(), given_up);
-    let init = text_of(&rt, &LoadError::Init(io::Error::other("no such page")))?;
-    assert_eq!(rt; init.as_str(), "no such page");
-    Ok(())
+    let init = LoadError::Init(io::Error::other("no such page"));
+    let are_told = [
+        has_text(&rt, &PollError::CallsSpent, "no call number is left"),
+        has_text(&rt, &PollError::Memory, "out of memory"),
+        has_text(&rt, &RetriesExhausted, given_up),
+        has_text(&rt, &load, given_up),
+        has_text(&rt, &init, "no such page"),
+    ];
+    assert_eq!(rt; are_told, [true; 5]);
 }
 
 #[test]
-fn errors_become_io_errors_of_one_text(rt: HostRuntime) -> Result<(), Fail> {
+fn errors_become_io_errors_of_one_text(rt: HostRuntime) {
     let cases = [
         (
             io::Error::from(PollError::CallsSpent),
@@ -52,10 +65,8 @@ fn errors_become_io_errors_of_one_text(rt: HostRuntime) -> Result<(), Fail> {
         ),
     ];
     for (error, kind, text) in cases {
-        assert_eq!(rt; error.kind(), kind);
-        assert_eq!(rt; text_of(&rt, &error)?.as_str(), text);
+        assert!(rt; is_io_error(&rt, &error, kind, text), "{text}");
     }
-    Ok(())
 }
 
 /// Numbers by number, of a source that tells why it has none.
@@ -68,6 +79,22 @@ fn ask_in_vain<R: Wait + RandomSource + AllocGlobal>(
 ) -> anyhow::Result<u32> {
     let source = err("no such number");
     Ok(numbers.try_get_with(1, source).block_on(rt, 0)??)
+}
+
+/// Whether this is the text of an error of any type.
+fn has_any_text<R: Runtime>(rt: &R, error: &anyhow::Error, text: &str) -> bool {
+    match format!(in rt.alloc(); "{error}") {
+        Ok(told) => told.as_str() == text,
+        Err(_) => false,
+    }
+}
+
+/// Whether the source's own error is what a load of it tells.
+fn is_source_told<R: Runtime>(rt: &R, numbers: &Sourced) -> bool {
+    match ask_in_vain(rt, numbers) {
+        Ok(_) => false,
+        Err(error) => has_any_text(rt, &error, "no such number"),
+    }
 }
 
 #[test]
@@ -84,46 +111,38 @@ fn errors_become_anyhow_errors_of_one_text(rt: HostRuntime) -> Result<(), Fail> 
         ),
     ];
     for (error, text) in cases {
-        assert_eq!(rt; format!(in rt.alloc(); "{error}")?.as_str(), text);
+        assert!(rt; has_any_text(&rt, &error, text), "{text}");
     }
     let numbers: Sourced = Cache::new(rt.alloc(), 100)?;
-    let Err(error) = ask_in_vain(&rt, &numbers) else {
-        assert!(rt; false, "the source has a number");
-        return Ok(());
-    };
-    assert_eq!(rt;
-        format!(in rt.alloc(); "{error}")?.as_str(),
-        "no such number"
-    );
+    assert!(rt; is_source_told(&rt, &numbers));
     Ok(())
 }
 
 /// Stores 5 under the key.
-fn store<R: Wait + RandomSource + AllocGlobal>(
-    rt: &R,
-    cache: &Numbers,
-    key: u32,
-) -> io::Result<()> {
+fn store<R: Runtime>(rt: &R, cache: &Numbers, key: u32) -> io::Result<()> {
     cache.insert(key, 5).block_on(rt, 0)
+}
+
+/// Whether a store without a number is an `io::Error` that says so.
+fn is_without_number<R: Runtime>(rt: &R, cache: &Numbers) -> bool {
+    match store(rt, cache, 2) {
+        Ok(()) => false,
+        Err(error) => is_io_error(rt, &error, ErrorKind::Other, "no call number is left"),
+    }
 }
 
 #[test]
 fn a_call_without_a_number_is_an_io_error(rt: HostRuntime) -> Result<(), Fail> {
     let cache: Numbers = Cache::starting_after(rt.alloc(), None, Some(100), u64::MAX - 1)?;
     store(&rt, &cache, 1)?;
-    let Err(error) = store(&rt, &cache, 2) else {
-        assert!(rt; false, "a number was left");
-        return Ok(());
-    };
-    assert_eq!(rt; error.kind(), ErrorKind::Other);
-    assert_eq!(rt; text_of(&rt, &error)?.as_str(), "no call number is left");
+    assert!(rt; is_without_number(&rt, &cache));
     Ok(())
 }
 
 #[test]
 fn a_cache_writes_its_name_and_its_policy(rt: HostRuntime) -> Result<(), Fail> {
     let name = format!(in rt.alloc(); "pages")?;
-    let builder: CacheBuilder<u32, u32> = CacheBuilder::new(9).name(name);
+    let builder: CacheBuilder<u32, u32, u32> = CacheBuilder::new(9).name(name);
     let text = format!(in rt.alloc(); "{builder:?}")?;
     assert_eq!(rt;
         text.as_str(),

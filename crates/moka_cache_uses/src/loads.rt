@@ -1,6 +1,7 @@
 //! Loads by futures of each kind.
 
 use crate::answers::Runtime;
+use futures::FutureExt;
 use futures::future::{join, lazy, ready};
 use moka_cache::Cache;
 use std::alloc::Global;
@@ -38,12 +39,11 @@ fn by_entry<R: Runtime>(rt: &R, cache: &Numbers) -> io::Result<()> {
     println!(rt; "by entry: {first}, {kept}, absent {absent}, {failed:?}")
 }
 
-/// Loads what two futures give.
-fn by_two<R: Runtime>(rt: &R, alloc: Global) -> io::Result<()> {
-    let pairs: Cache<u32, (u32, u32)> = Cache::new(alloc, 100)?;
-    let both = join(lazy(|_| 2), ready(3));
-    let pair = pairs.get_with(1, both).block_on(rt, 0)??;
-    println!(rt; "by two futures: {pair:?}")
+/// Loads the sum of what two futures give.
+fn by_two<R: Runtime>(rt: &R, cache: &Numbers) -> io::Result<()> {
+    let sum = join(lazy(|_| 2u32), ready(3u32)).map(|(one, other)| one.wrapping_add(other));
+    let sum = cache.get_with(5, sum).block_on(rt, 0)??;
+    println!(rt; "by two futures: {sum}")
 }
 
 /// Loads in each way.
@@ -51,5 +51,5 @@ pub(crate) fn show<R: Runtime>(rt: &R, alloc: Global) -> io::Result<()> {
     let cache = Cache::new(alloc, 100)?;
     by_key(rt, &cache)?;
     by_entry(rt, &cache)?;
-    by_two(rt, alloc)
+    by_two(rt, &cache)
 }

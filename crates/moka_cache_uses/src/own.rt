@@ -67,7 +67,8 @@ fn load_and_compute<R: Runtime, L: Listener<u32, u32>>(
     Ok((own, other, last.value))
 }
 
-/// The same with a listener of a type and with a closure for one.
+/// Loads and computes in two caches: one whose listener is a type of one's own, one whose listener is
+/// a closure.
 pub(crate) fn show<R: Runtime>(rt: &R, alloc: Global) -> io::Result<()> {
     let (own, closure) = (AtomicU64::new(0), AtomicU64::new(0));
     let cache = CacheBuilder::new(100)
