@@ -1,6 +1,6 @@
 //! Causes of records that have expired, or were invalidated, as a listener hears them.
 
-use crate::keeping::{Board, KeepListener, left};
+use crate::keeping::{Board, KeepListener, Started, left};
 use moka_cache::{BuildError, CacheBuilder};
 use moka_cache_runs::asks::Asked::{Never, Starts};
 use moka_cache_runs::asks::{NOBODY, Told};
@@ -17,7 +17,9 @@ use moka_cache_runs::rows::Event::{InvalidateAll, RunAt};
 use moka_cache_runs::rows::{Row, wrong_row_on};
 use moka_hist::Cause;
 use std::alloc::{AllocGlobal, Global};
-use std::sync::Arc;
+use std::process::Abort;
+use std::random::RandomSource;
+use std::sync::{Arc, Wait};
 use std::test::Fail;
 use std::time::Duration;
 
@@ -57,6 +59,26 @@ fn idling() -> Builder {
     Builder::new(100).time_to_idle(Duration::from_nanos(10))
 }
 
+/// How many records a listener was told of, and the first and the last of them.
+type HeardSo = (u64, Option<Started>, Option<Started>);
+
+/// Plays the rows on a cache that is built so, and fails where another thing is told of them, or the
+/// listener is told another thing.
+fn play<R: Abort + Wait + RandomSource + AllocGlobal>(
+    rt: &R,
+    builder: Builder,
+    rows: &[Row],
+    told: HeardSo,
+) -> Result<(), Fail> {
+    let board = Board::new(rt.alloc())?;
+    let cache = heard(rt.alloc(), builder, Arc::try_clone(&board)?)?;
+    let wrong = wrong_row_on(rt, &cache, rows);
+    drop(cache);
+    assert_eq!(rt; wrong?, None);
+    assert_eq!(rt; board.told(), told);
+    Ok(())
+}
+
 #[test]
 fn what_is_replaced_past_its_time_has_expired(rt: HostRuntime) -> Result<(), Fail> {
     let rows = [
@@ -64,14 +86,9 @@ fn what_is_replaced_past_its_time_has_expired(rt: HostRuntime) -> Result<(), Fai
         Row(RunAt(9, AGAIN), told(Done), NOBODY),
         Row(RunAt(19, INSERT), told(Done), NOBODY),
     ];
-    for builder in [living(), idling()] {
-        let board = Board::new(rt.alloc())?;
-        let cache = heard(rt.alloc(), builder, Arc::try_clone(&board)?)?;
-        assert_eq!(rt; wrong_row_on(&rt, &cache, &rows)?, None);
-        let first = left(2, 5, Cause::Replaced);
-        assert_eq!(rt; board.told(), (2, first, left(3, 6, Cause::Expired)));
-    }
-    Ok(())
+    let told = (2, left(2, 5, Cause::Replaced), left(3, 6, Cause::Expired));
+    play(&rt, living(), &rows, told)?;
+    play(&rt, idling(), &rows, told)
 }
 
 #[test]
@@ -82,14 +99,9 @@ fn what_is_removed_past_its_time_has_expired(rt: HostRuntime) -> Result<(), Fail
         Row(RunAt(9, AGAIN), told(Done), NOBODY),
         Row(RunAt(19, REMOVE), told(Value(6)), NOBODY),
     ];
-    for builder in [living(), idling()] {
-        let board = Board::new(rt.alloc())?;
-        let cache = heard(rt.alloc(), builder, Arc::try_clone(&board)?)?;
-        assert_eq!(rt; wrong_row_on(&rt, &cache, &rows)?, None);
-        let first = left(2, 5, Cause::Explicit);
-        assert_eq!(rt; board.told(), (2, first, left(4, 6, Cause::Expired)));
-    }
-    Ok(())
+    let told = (2, left(2, 5, Cause::Explicit), left(4, 6, Cause::Expired));
+    play(&rt, living(), &rows, told)?;
+    play(&rt, idling(), &rows, told)
 }
 
 // It is past its time to idle, too, and a removal tells that.
@@ -102,12 +114,8 @@ fn what_is_replaced_once_invalidated_left_explicitly(rt: HostRuntime) -> Result<
         Row(InvalidateAll(30), told(Done), NOBODY),
         Row(RunAt(30, REMOVE), told(Value(6)), NOBODY),
     ];
-    let board = Board::new(rt.alloc())?;
-    let cache = heard(rt.alloc(), idling(), Arc::try_clone(&board)?)?;
-    assert_eq!(rt; wrong_row_on(&rt, &cache, &rows)?, None);
     let first = left(2, 5, Cause::Explicit);
-    assert_eq!(rt; board.told(), (2, first, left(3, 6, Cause::Expired)));
-    Ok(())
+    play(&rt, idling(), &rows, (2, first, left(3, 6, Cause::Expired)))
 }
 
 #[test]
@@ -117,12 +125,8 @@ fn what_lived_too_long_has_expired_once_invalidated(rt: HostRuntime) -> Result<(
         Row(InvalidateAll(10), told(Done), NOBODY),
         Row(RunAt(10, AGAIN), told(Done), NOBODY),
     ];
-    let board = Board::new(rt.alloc())?;
-    let cache = heard(rt.alloc(), living(), Arc::try_clone(&board)?)?;
-    assert_eq!(rt; wrong_row_on(&rt, &cache, &rows)?, None);
     let first = left(2, 5, Cause::Expired);
-    assert_eq!(rt; board.told(), (1, first, first));
-    Ok(())
+    play(&rt, living(), &rows, (1, first, first))
 }
 
 #[test]
@@ -138,12 +142,13 @@ fn a_put_over_what_has_expired_is_told_so(rt: HostRuntime) -> Result<(), Fail> {
         ),
         Row(RunAt(19, Own(1, OfKey(Invalidate))), told(Done), NOBODY),
     ];
-    let board = Board::new(rt.alloc())?;
-    let cache = heard(rt.alloc(), idling(), Arc::try_clone(&board)?)?;
-    assert_eq!(rt; wrong_row_on(&rt, &cache, &rows)?, None);
     let first = left(3, 5, Cause::Expired);
-    assert_eq!(rt; board.told(), (2, first, left(4, 7, Cause::Explicit)));
-    Ok(())
+    play(
+        &rt,
+        idling(),
+        &rows,
+        (2, first, left(4, 7, Cause::Explicit)),
+    )
 }
 
 #[test]
@@ -153,9 +158,5 @@ fn invalidating_all_tells_the_listener_nothing(rt: HostRuntime) -> Result<(), Fa
         Row(InvalidateAll(1), told(Done), NOBODY),
         Row(RunAt(1, Own(1, OfKey(Get))), told(Reply::Nothing), NOBODY),
     ];
-    let board = Board::new(rt.alloc())?;
-    let cache = heard(rt.alloc(), Builder::new(100), Arc::try_clone(&board)?)?;
-    assert_eq!(rt; wrong_row_on(&rt, &cache, &rows)?, None);
-    assert_eq!(rt; board.told(), (0, None, None));
-    Ok(())
+    play(&rt, Builder::new(100), &rows, (0, None, None))
 }
