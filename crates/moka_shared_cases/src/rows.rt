@@ -1,4 +1,5 @@
 //! Worked cases as rows: what is done with a table, and what it tells.
+ghost use Rattle.std.specs.Prelude.{◌<◌, ◌≤◌};
 
 use crate::calls::Caller;
 use moka_shared::{HashMap, Missed, TryChange, TryGet, TryInsert, TrySeal, Unopened};
@@ -74,7 +75,11 @@ pub(crate) fn wrong_row<S: BuildHasher + Drop>(
     capacity: usize,
     hasher: S,
     rows: &[Row],
-) -> Result<Option<Wrong>, AllocError> {
+) -> Result<Option<Wrong>, AllocError>
+    requires some { 0 < segments }
+    requires few { segments ≤ 65536 }
+    requires capacity { 0 < capacity }
+{
     let table: HashMap<u64, u64, S> = HashMap::with_num_segments_capacity_and_hasher(
         alloc, segments, capacity, hasher,
     )?;

@@ -1,4 +1,5 @@
 //! One seat, and two.
+ghost use Rattle.std.specs.Prelude.{◌<◌};
 
 use crate::rows::Deed::{Get, Put, Segments};
 use crate::rows::Told::{Count, Inserted, Nothing, Present, Value};
@@ -20,7 +21,9 @@ pub(crate) fn fold() -> Fold {
 }
 
 /// A table for so many pairs, of as many segments as one has where none are asked for.
-pub(crate) fn of_capacity(alloc: Global, capacity: usize) -> Result<Table, AllocError> {
+pub(crate) fn of_capacity(alloc: Global, capacity: usize) -> Result<Table, AllocError>
+    requires { 0 < capacity }
+{
     HashMap::with_capacity(alloc, capacity, fold())
 }
 
