@@ -140,6 +140,7 @@ fn left(key: u32, calls: usize) -> Option<u32> {
 /// What came of the calls: how many were made until memory was wanting, whether each call after that
 /// told so, how many writes were unsent then, whether the cache drained without an error, and how
 /// many were unsent after that.
+#[derive(Clone, Copy)]
 struct Tried {
     made: usize,
     told: bool,
