@@ -4,6 +4,8 @@
 //! Upstream is played by a table: it answers what a line fetched once the next line has come.
 #![tactic(auto)]
 
+ghost use Rattle.moka_gateway.specs.Gateway.{IsUsable};
+
 mod server;
 
 use server::Server;
@@ -11,8 +13,17 @@ use std::io;
 
 fn main(rt: HostRuntime) -> io::Result<()> {
     let mut server = Server::new(rt.alloc())?;
+    let served = serve_all(&rt, &mut server);
+    drop(server);
+    served
+}
+
+/// Answers each line that is typed, and lets upstream answer what is open at the end.
+fn serve_all(rt: &HostRuntime, server: &mut Server) -> io::Result<()>
+    requires { IsUsable server.old.gateway }
+{
     for line in rt.lines(rt.alloc()) {
-        server.serve(&rt, line?.as_str())?;
+        server.serve(rt, line?.as_str())?;
     }
-    server.answer_all(&rt)
+    server.answer_all(rt)
 }
