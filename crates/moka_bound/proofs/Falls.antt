@@ -7,7 +7,7 @@ use Rattle.moka_hist.specs.State.{Call, DeskPart, World}
 use Rattle.moka_hist.specs.Plan.{Item, Aim, Change, Removal, look, loaded, load_rest, end_load, put, take_out, under_lock, is_disabled, lists_from, walks}
 use Rattle.moka_hist.specs.Plan as plan
 use Rattle.moka_hist.specs.Next.{Next, goes, stays, waits, gives, asks, answers}
-use Rattle.moka_hist.specs.Visits.{claimed, claimed_alone, unlocked, is_running, is_unlocked_for, locked_by, settlement_for, is_free_for, finds, claim_of, has_room, is_seen, registering, candidates, struck}
+use Rattle.moka_hist.specs.Visits.{claimed, claimed_alone, unlocked, is_running, is_unlocked_for, lock_taken, locked_by, settlement_for, is_free_for, finds, claim_of, has_room, is_seen, registering, candidates, struck}
 use Rattle.moka_hist.specs.Posting.{once_ended, after_drain, after_post, after_turn, after_apply}
 use Rattle.moka_hist.specs.Looking.{hits, misses, keeps, kept_rest, chosen_or_not, finds_pair, after_get, after_judge, after_holds}
 use Rattle.moka_hist.specs.Loading.{retries, owner_rest, after_own, after_read, after_told}
@@ -45,6 +45,8 @@ use Rattle.moka_hist.specs.declared.visits.Settled.TheVariants as settled
 use Rattle.moka_hist.specs.declared.visits.Visit.TheVariants as visit
 use Rattle.moka_hist.specs.declared.visits.Found.{Found}
 use Rattle.moka_hist.specs.declared.visits.Found.TheVariants as found
+use Rattle.moka_hist.specs.declared.visits.LockTaken.{LockTaken}
+use Rattle.moka_hist.specs.declared.visits.LockTaken.TheVariants as taken
 use Rattle.moka_hist.specs.declared.replies.Answer.TheVariants as answer
 use Rattle.moka_hist.specs.declared.tables.TableAnswer.{TableAnswer}
 use Rattle.moka_hist.specs.declared.tables.TableAnswer.TheVariants as table_answer
@@ -185,9 +187,10 @@ module _ {K V E : Type 0} where
         let e = eased old new c.aborts false rest s.eases (post_worst (room_in new)) in
         falls_goes new _ c rest (omega (arith, e, s.logged))
 
-    locks : (key : K) (rest : List (Item K V E)) (b : Bool) → Same old new → Falls new (bound_of (plan.Lock key ∷ rest)) (after_lock c rest (found.LockKey b))
-    locks key rest true s = passes rest s
-    locks key rest false s = never new _ (waits c) (λ e. cc)
+    locks : (key : K) (rest : List (Item K V E)) (t : LockTaken) → Same old new → Falls new (bound_of (plan.Lock key ∷ rest)) (after_lock c rest (found.LockKey t))
+    locks key rest taken.Taken s = passes rest s
+    locks key rest taken.Held s = never new _ (waits c) (λ e. cc)
+    locks key rest (taken.Kept notice) s = never new _ (waits c) (λ e. cc)
 
     hears : (rest : List (Item K V E)) (b : Bool) → Same old new →
         Falls new (old.logged + (1 + steps_of old.owed old.most c.aborts false old.most true rest)) (after_hearing c rest (found.NoticeEnded b))
@@ -653,7 +656,7 @@ module _ {K V E : Type 0} where
     on_item plan.Heard rest (got.Desk f) e m g h silent = rw g.0
         (hears old new c young rest (not (is_running w.desk n)) (leaves _ (ap (λ v. v.desk) g.1) (record { owed = refl; log = refl; size = refl }) h.within h.raises))
     on_item (plan.Lock key) rest (got.Desk f) e m g h silent = rw g.0
-        (locks old new c young key rest (is_unlocked_for w.desk n key)
+        (locks old new c young key rest (lock_taken w.desk n key)
         (leaves _ (ap (λ v. v.desk) g.1) (locked_lists eq w.desk n key (is_unlocked_for w.desk n key)) h.within h.raises))
     on_item (plan.Unlock b) rest (got.Desk f) e m g h silent = rw g.0
         (passes old new c young rest (leaves _ (ap (λ v. v.desk) g.1) (unlocked_lists w.desk n b) h.within h.raises))

@@ -1,5 +1,5 @@
 -- What a state may answer after a poll, it could answer before.
-use Rattle.std.proofs.Common.{◌≡◌, Bool, Option, Some, Result, Ok, Err, OnErr, ap, ◌∙◌, subst}
+use Rattle.std.proofs.Common.{◌≡◌, Bool, Option, Result, Ok, Err, OnErr, ap, ◌∙◌, subst}
 use Rattle.futures.specs.Poll.{IfReady, OnPending}
 use Rattle.futures.specs.declared.task.Poll.{Poll}
 use Rattle.futures.specs.declared.task.Poll.TheVariants.{Ready, Pending}

@@ -1,5 +1,6 @@
 -- How turns of a poll, one after another, leave its call.
-use Rattle.std.proofs.Common.{◌≡◌, Bool, true, Option, Some, None, IsSome, Result, Ok, Err, IfSome, ◌⊎◌, inl, inr, refl, sym, ◌∙◌, subst}
+use Rattle.std.proofs.Common.{◌≡◌, ℕ, Bool, true, Option, Some, None, IsSome, Result, Ok, Err, IfSome, ◌⊎◌, inl, inr, refl, sym, ◌∙◌, subst}
+use Rattle.std.proofs.lemmas.Option.{same_Some}
 use Rattle.futures.specs.Poll.{OnPending}
 use Rattle.futures.specs.declared.task.Poll.{Poll}
 use Rattle.futures.specs.declared.task.Poll.TheVariants.{Ready, Pending}
@@ -11,7 +12,7 @@ use Rattle.moka_init.specs.Grounds.{access_at}
 use Rattle.moka_init.specs.declared.flow.Flow.{Flow}
 use Rattle.moka_kept.specs.Rests.{Rests}
 use Rattle.moka_kept.specs.Taking.{Taken, is_taking}
-use Rattle.moka_kept.specs.Stops.{CameTo, IsWaiting, StopIs, Waits}
+use Rattle.moka_kept.specs.Stops.{CameTo, FindsKept, IsWaiting, StopIs, Waits}
 use Rattle.moka_kept.specs.declared.brought.Brought.{Brought}
 use Rattle.moka_kept.specs.declared.stop.OwnAsk.TheVariants as own
 use Rattle.moka_kept.specs.declared.stop.Stop.{Stop}
@@ -19,7 +20,7 @@ use Rattle.moka_kept.specs.declared.stop.Stop.TheVariants as stop
 use Rattle.moka_kept.proofs.Stopping.{answers_on, came_here, came_to_on, came_to_weaker}
 use Rattle.moka_kept.proofs.Ways.{ended_weaker}
 use Rattle.moka_cache.specs.Asked.{BegunBy, IsAskedFor}
-use Rattle.moka_cache.specs.Hearing.{FollowsStop, MayPend}
+use Rattle.moka_cache.specs.Hearing.{Awaits, FollowsStop, MayPend, StandsAtOne, standing_at}
 use Rattle.moka_cache.specs.Polls.{CameToAsk, PollIs, TurnIs}
 use Rattle.moka_cache.specs.declared.errors.PollError.{PollError}
 use Rattle.moka_cache.proofs.Taking.{unasked_then}
@@ -35,26 +36,37 @@ module _ {K V E : Type 0} (eq : K → K → Bool) (such : Taken V E → Type 0) 
       → TurnIs eq such old t new
   turned old (stop.Answers answer) t new end follows = subst (λ u. TurnIs eq such old u new) (sym follows) end
   turned old stop.Going t new after follows = subst (λ u. TurnIs eq such old u new) (sym follows) after.0
-  turned old (stop.Waits task) t new after follows = may_pend old t new after.0 follows
+  turned old (stop.Waits task kept) t new after follows = may_pend old t new after.0 follows
   turned old (stop.Asks own) t new after follows = subst (λ u. TurnIs eq such old u new) (sym follows) after.0
   turned old (stop.Due due) t new after follows = may_pend old t new after.0 follows
   turned old stop.Memory t new after follows = subst (λ u. TurnIs eq such old u new) (sym follows) (refl, after)
 
+  -- the notice at which a hold left the call, that its plan awaits or that keeps the lock
+  stands_at : (unheard : ℕ → Type 0) (old : Flow K V E) (s : Stop K V E) (new : Flow K V E) → StopIs eq such old s new → Awaits unheard (standing_at s new) → StandsAtOne eq unheard new
+  stands_at unheard old (stop.Waits task (Some notice)) new stops at = (at.0, inr (subst (FindsKept eq new) (same_Some notice at.0 at.1) stops.2), at.2)
+  stands_at unheard old (stop.Waits task None) new stops at = (at.0, inl at.1, at.2)
+  stands_at unheard old stop.Going new stops at = (at.0, inl at.1, at.2)
+  stands_at unheard old (stop.Asks own) new stops at = (at.0, inl at.1, at.2)
+  stands_at unheard old (stop.Due due) new stops at = (at.0, inl at.1, at.2)
+  stands_at unheard old (stop.Answers answer) new stops at = (at.0, inl at.1, at.2)
+  stands_at unheard old stop.Memory new stops at = (at.0, inl at.1, at.2)
+
   -- where the steps left the call waiting, it waits
-  pub waits_still : (A : Type 0) (old : Flow K V E) (s : Stop K V E) (new : Flow K V E) → StopIs eq such old s new → IsWaiting s ⊎ A → Waits eq new ⊎ A
-  waits_still A old (stop.Waits task) new stops (inl waits) = inl stops.1
-  waits_still A old stop.Going new stops (inl waits) = absurd waits
-  waits_still A old (stop.Asks own) new stops (inl waits) = absurd waits
-  waits_still A old (stop.Due due) new stops (inl waits) = absurd waits
-  waits_still A old (stop.Answers answer) new stops (inl waits) = absurd waits
-  waits_still A old stop.Memory new stops (inl waits) = absurd waits
-  waits_still A old s new stops (inr other) = inr other
+  pub waits_still : (unheard : ℕ → Type 0) (old : Flow K V E) (s : Stop K V E) (new : Flow K V E) → StopIs eq such old s new → IsWaiting s ⊎ Awaits unheard (standing_at s new) →
+      Waits eq new ⊎ StandsAtOne eq unheard new
+  waits_still unheard old (stop.Waits task kept) new stops (inl waits) = inl stops.1
+  waits_still unheard old stop.Going new stops (inl waits) = absurd waits
+  waits_still unheard old (stop.Asks own) new stops (inl waits) = absurd waits
+  waits_still unheard old (stop.Due due) new stops (inl waits) = absurd waits
+  waits_still unheard old (stop.Answers answer) new stops (inl waits) = absurd waits
+  waits_still unheard old stop.Memory new stops (inl waits) = absurd waits
+  waits_still unheard old s new stops (inr other) = inr (stands_at unheard old s new stops other)
 
   -- who is asked is as it was, or began where the call came to its own ask
   pub begun_at : {Q : Type 0} (begins : Q → Option (Entry K V) → Q → Type 0) (old : Flow K V E) (s : Stop K V E) (new : Flow K V E) (before after : Q) → StopIs eq such old s new
       → BegunBy begins s before after → (after ≡ before) ⊎ CameToAsk eq such old
   begun_at begins old stop.Going new before after stops begun = inl begun
-  begun_at begins old (stop.Waits task) new before after stops begun = inl begun
+  begun_at begins old (stop.Waits task kept) new before after stops begun = inl begun
   begun_at begins old (stop.Answers answer) new before after stops begun = inl begun
   begun_at begins old stop.Memory new before after stops begun = inl begun
   begun_at begins old (stop.Due due) new before after stops begun = inl begun

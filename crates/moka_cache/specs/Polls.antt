@@ -9,7 +9,7 @@ use Rattle.moka_init.specs.Grounds.{access_at}
 use Rattle.moka_init.specs.declared.flow.Flow.{Flow}
 use Rattle.moka_kept.specs.Stops.{AnswersFrom, CameTo, LeftAsking, Waits}
 use Rattle.moka_kept.specs.Taking.{Taken, is_taking}
-use Rattle.moka_cache.specs.Hearing.{Awaits}
+use Rattle.moka_cache.specs.Hearing.{StandsAtOne}
 use Rattle.moka_cache.specs.declared.errors.PollError.{PollError}
 use Rattle.moka_cache.specs.declared.errors.PollError.TheVariants as error
 
@@ -29,14 +29,14 @@ module _ {K V E : Type 0} where
   TurnIs eq such old (Some poll) new = PollIs eq such old poll new
 
   -- Why a poll is pending: the last access left its call waiting; or its own ask is open, and who
-  -- is asked answered Pending, and is as that poll left it; or it awaits the end of a notice, whose
-  -- poll the listener left pending.
+  -- is asked answered Pending, and is as that poll left it; or it stands at a notice, its own, that
+  -- of an owed write or that which keeps its key's lock, whose poll the listener left pending.
   abbrev pub Pends : {Q : Type 0} → (K → K → Bool) → (Q → Q → Type 0) → (ℕ → Type 0) → Q
       → Flow K V E → Type 0
   Pends {Q} eq pends unheard asked flow =
       Waits eq flow
       ⊎ (((is_taking (access_at flow) ≡ true) × ((before : Q) × pends before asked))
-      ⊎ Awaits unheard flow)
+      ⊎ StandsAtOne eq unheard flow)
 
   -- who is asked is to be asked where the flow stands: its own ask is open, which its next visit
   -- takes the answer to; or that judges a record by the replace test; or the last access of its

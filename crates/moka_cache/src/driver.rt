@@ -31,7 +31,7 @@ where
     ghost use Rattle.moka_hist.specs.Run.{fresh_call};
     ghost use Rattle.moka_hist.specs.State.{Call};
     ghost use Rattle.moka_kept.specs.Stops.{Waits};
-    ghost use Rattle.moka_cache.specs.Hearing.{Awaits, Unheard, over_in};
+    ghost use Rattle.moka_cache.specs.Hearing.{StandsAtOne, Unheard, over_in};
     ghost use Rattle.moka_cache.specs.Polls.{CameToAsk, Pends, PollIs, TurnIs};
     ghost use Rattle.moka_cache.specs.Settings.{listener_of, rules_of};
     ghost use Rattle.moka_cache.specs.Stages.{AnswersWith, CameOnWith, IsNamed, MayPoll};
@@ -235,7 +235,7 @@ where
         ensures unasked { (asked.new ≡ asked.old)
             ⊎ CameToAsk K.eq (Brings (tested_in (call_of flow.old).plan) brought) flow.old }
         ensures cause { IfSome (over_in result) (λ poll. OnPending poll (Waits K.eq flow.new
-            ⊎ Awaits (Unheard L.pends (listener_of self.now)) flow.new)) }
+            ⊎ StandsAtOne K.eq (Unheard L.pends (listener_of self.now)) flow.new)) }
         ensures asked { AskedStays Q.can_poll Q.gives Q.tests asked.old asked.new }
         ensures context { ContextStays cx.old cx.new (over_in result) }
     {

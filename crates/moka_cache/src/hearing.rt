@@ -1,15 +1,14 @@
 //! What follows a hold of the lock, without it: who is asked begins, and the listener is started,
 //! and polled.
 ghost use Rattle.std.specs.Prelude.{◌≡◌, ◌⊎◌, Some, None, IfNone, IfSome, IsSome};
+ghost use Rattle.std.specs.Option.{option_or};
 ghost use Rattle.futures.specs.Poll.{IfReady, OnPending};
 ghost use Rattle.futures.specs.Task.{IsArmed, Keeps};
 ghost use Rattle.moka_cache.specs.Asked.{BegunBy, BegunFor, entry_of};
-ghost use Rattle.moka_hist.specs.Plan.{hearing};
-ghost use Rattle.moka_init.specs.FlowPlan.{call_of};
 ghost use Rattle.moka_kept.specs.Ends.{MayEnd};
 ghost use Rattle.moka_kept.specs.Stops.{IsWaiting};
 ghost use Rattle.moka_cache.specs.Hearing.{Awaits, Ends, FollowsStop, IsHeard, MayPend, Unheard};
-ghost use Rattle.moka_cache.specs.Hearing.{WasPolled, heard_in, over_in};
+ghost use Rattle.moka_cache.specs.Hearing.{WasPolled, heard_by, heard_in, over_in, standing_at};
 ghost use Rattle.moka_cache.specs.Stays.{AskedStays};
 
 use crate::asked::Asked;
@@ -39,8 +38,9 @@ where
     S: BuildHasher + Drop,
 {
     /// What follows a hold that left the call of the flow so: a listener that it asks is started;
-    /// who answers its own ask begins, where that is of a compute; and where the call awaits the
-    /// end of a notice, which runs, that is polled.
+    /// who answers its own ask begins, where that is of a compute; and where the call stands at a
+    /// notice, which runs, the listener is polled for that: its own, that of an owed write that it
+    /// took up, or that which keeps the lock that it waits for.
     pub(crate) fn after<Q: Asked<K, V, E>>(
         &self,
         flow: &Live<K, V, E>,
@@ -55,12 +55,13 @@ where
         ensures asked { AskedStays Q.can_poll Q.gives Q.tests asked.old asked.new }
         ensures follows { FollowsStop stop (over_in result) }
         ensures cause { over_in result ≡ Some Poll.Pending
-            → IsWaiting stop ⊎ Awaits (Unheard L.pends self.now.listener) flow.now }
+            → IsWaiting stop
+            ⊎ Awaits (Unheard L.pends self.now.listener) (standing_at stop flow.now) }
         // What the next hold is to tell, and that a listener that is awaited was polled.
         ensures heard { IfSome (heard_in result)
-            (IsHeard (Ends (MayEnd L.quits) self.now.listener) flow.now) }
+            (IsHeard (Ends (MayEnd L.quits) self.now.listener) (standing_at stop flow.now)) }
         ensures polled { over_in result ≡ Some Poll.Pending
-            → WasPolled L.pends self.now.listener flow.now }
+            → WasPolled L.pends self.now.listener (standing_at stop flow.now) }
         ensures armed { over_in result ≡ Some Poll.Pending → IsArmed cx.new }
         ensures kept { Keeps cx.old cx.new }
     {
@@ -71,7 +72,7 @@ where
                 Turned::On(None)
             }
             Stop::Due(due) => self.after_due(flow, due, cx),
-            Stop::Waits(_) => self.after_wait(flow, cx),
+            Stop::Waits(_, kept) => self.after_wait(flow, kept, cx),
             Stop::Answers(answer) => Turned::Over(Poll::Ready(Ok(answer))),
             Stop::Memory => Turned::Over(Poll::Ready(Err(PollError::Memory))),
         }
@@ -87,58 +88,70 @@ where
         requires hears { (l : L) (key : K) (value : V) → L.hears l key value }
         ensures pends { MayPend (over_in result) }
         ensures cause { over_in result ≡ Some Poll.Pending
-            → Awaits (Unheard L.pends self.now.listener) flow.now }
+            → Awaits (Unheard L.pends self.now.listener) (heard_by flow.now) }
         // What the next hold is to tell, and that a listener that is awaited was polled.
         ensures heard { IfSome (heard_in result)
-            (IsHeard (Ends (MayEnd L.quits) self.now.listener) flow.now) }
+            (IsHeard (Ends (MayEnd L.quits) self.now.listener) (heard_by flow.now)) }
         ensures polled { over_in result ≡ Some Poll.Pending
-            → WasPolled L.pends self.now.listener flow.now }
+            → WasPolled L.pends self.now.listener (heard_by flow.now) }
         ensures armed { over_in result ≡ Some Poll.Pending → IsArmed cx.new }
         ensures kept { Keeps cx.old cx.new }
     {
         due.start(&self.listener);
-        match self.hear(flow, cx) {
+        match self.hear(flow.notice(), cx) {
             Some(poll) => go_with(poll),
             None => Turned::On(None),
         }
     }
 
-    // The call waits. If that is for the end of a notice, the listener is polled.
+    // The call waits. If that is for the end of a notice, or for a lock which a notice keeps, the
+    // listener is polled for that.
     fn after_wait(
         &self,
         flow: &Live<K, V, E>,
+        kept: Option<u64>,
         cx: &mut Context<'_>,
     ) -> Turned<Result<Answer<K, V, E>, PollError>>
         ensures pends { MayPend (over_in result) }
         // What the next hold is to tell, and that a listener that is awaited was polled.
-        ensures heard { IfSome (heard_in result)
-            (IsHeard (Ends (MayEnd L.quits) self.now.listener) flow.now) }
+        ensures heard { IfSome (heard_in result) (IsHeard
+            (Ends (MayEnd L.quits) self.now.listener) (option_or kept (heard_by flow.now))) }
         ensures polled { over_in result ≡ Some Poll.Pending
-            → WasPolled L.pends self.now.listener flow.now }
+            → WasPolled L.pends self.now.listener (option_or kept (heard_by flow.now)) }
         ensures kept { Keeps cx.old cx.new }
     {
-        match self.hear(flow, cx) {
+        match self.hear(at_notice(kept, flow), cx) {
             Some(poll) => go_with(poll),
             None => Turned::Over(Poll::Pending),
         }
     }
 
-    // Polls the listener for the notice whose end the call awaits. None where it awaits none, or
+    // Polls the listener for the notice at which a call stands. None where it stands at none, or
     // there is no listener.
-    fn hear(&self, flow: &Live<K, V, E>, cx: &mut Context<'_>) -> Option<Poll<Heard>>
+    fn hear(&self, at: Option<u64>, cx: &mut Context<'_>) -> Option<Poll<Heard>>
         ensures cause { result ≡ Some Poll.Pending
-            → Awaits (Unheard L.pends self.now.listener) flow.now }
+            → Awaits (Unheard L.pends self.now.listener) at }
         ensures ended { IfSome result (λ polled. IfReady polled
-            (IsHeard (Ends (MayEnd L.quits) self.now.listener) flow.now)) }
-        ensures none { IfNone result (IsSome self.now.listener
-            → hearing flow.now.call (call_of flow.now).plan ≡ None) }
+            (IsHeard (Ends (MayEnd L.quits) self.now.listener) at)) }
+        ensures none { IfNone result (IsSome self.now.listener → at ≡ None) }
         ensures armed { result ≡ Some Poll.Pending → IsArmed cx.new }
         ensures kept { Keeps cx.old cx.new }
     {
         match &self.listener {
-            Some(listener) => hear_by(listener, flow, cx),
+            Some(listener) => hear_by(listener, at, cx),
             None => None,
         }
+    }
+}
+
+// The notice at which the call stands: that which keeps the lock that it waits for, or else that
+// whose end it awaits.
+fn at_notice<K, V, E>(kept: Option<u64>, flow: &Live<K, V, E>) -> Option<u64>
+    ensures { result ≡ option_or kept (heard_by flow.now) }
+{
+    match kept {
+        Some(notice) => Some(notice),
+        None => flow.notice(),
     }
 }
 
@@ -179,20 +192,20 @@ fn entry_of<K, V>(found: Option<(K, V)>) -> Option<Entry<K, V>>
     }
 }
 
-// Polls this listener for the notice whose end the call awaits. None where it awaits none.
-fn hear_by<K: Drop, V: Drop, E: Drop, L: Listener<K, V>>(
+// Polls this listener for the notice at which a call stands. None where it stands at none.
+fn hear_by<K, V, L: Listener<K, V>>(
     listener: &L,
-    flow: &Live<K, V, E>,
+    at: Option<u64>,
     cx: &mut Context<'_>,
 ) -> Option<Poll<Heard>>
-    ensures cause { result ≡ Some Poll.Pending → Awaits (L.pends listener.now) flow.now }
+    ensures cause { result ≡ Some Poll.Pending → Awaits (L.pends listener.now) at }
     ensures ended { IfSome result (λ polled. IfReady polled
-        (IsHeard (MayEnd L.quits listener.now) flow.now)) }
-    ensures none { IfNone result (hearing flow.now.call (call_of flow.now).plan ≡ None) }
+        (IsHeard (MayEnd L.quits listener.now) at)) }
+    ensures none { IfNone result (at ≡ None) }
     ensures armed { result ≡ Some Poll.Pending → IsArmed cx.new }
     ensures kept { Keeps cx.old cx.new }
 {
-    match flow.notice() {
+    match at {
         Some(notice) => Some(poll_notice(listener, notice, cx)),
         None => None,
     }

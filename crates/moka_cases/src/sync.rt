@@ -36,6 +36,25 @@ fn a_call_that_leaves_and_comes_again_is_last(rt: HostRuntime) {
     assert!(rt; matches!(listed, Ok(true)));
 }
 
+/// Lists three calls, of which the second leaves.
+fn lists_two_of_three(list: &mut WaitList) -> Result<(), AllocError> {
+    for call in [5, 6, 7] {
+        list.add(call)?;
+    }
+    list.remove(6);
+    Ok(())
+}
+
+#[test]
+fn a_list_that_goes_hands_out_those_that_wait(rt: HostRuntime) {
+    let mut list = WaitList::new(rt.alloc());
+    let listed = lists_two_of_three(&mut list);
+    let calls = list.into_calls();
+    let handed_out = has(&calls, &[5, 7]);
+    drop(calls);
+    assert!(rt; listed.is_ok() && handed_out);
+}
+
 /// Whether the last three of 200 calls are handed out in their order, once the others left; and
 /// nobody after them.
 fn notifies_three(event: &mut Event) -> Result<bool, AllocError> {

@@ -1,19 +1,23 @@
 -- States that a desk stands for beside another.
-use Rattle.std.proofs.Common.{◌≡◌, ℕ, ◌==◌, Bool, true, false, cond, None, IsNone, is_some, nat_eq, refl}
+use Rattle.std.proofs.Common.{◌≡◌, ℕ, ◌==◌, Bool, true, false, cond, None, IsNone, is_some, nat_eq, refl, sym, ap, ◌∙◌}
 use Rattle.std.specs.HashMap.{get}
 use Rattle.std.specs.declared.cmp.PartialEq as PartialEq
 use Rattle.std.specs.declared.hash.Hash as Hash
 use Rattle.std.specs.declared.hash.Hasher as Hasher
 use Rattle.std.specs.declared.hash.BuildHasher as BuildHasher
-use Rattle.std.proofs.lemmas.Bool.{eqb-false}
+use Rattle.std.proofs.lemmas.Bool.{eqb-false, eqb-true}
+use Rattle.std.specs.Option.{option_map_or}
 use Rattle.moka_hist.specs.Conditions.{IsUnused}
 use Rattle.moka_hist.specs.Finite.{put_at}
 use Rattle.moka_hist.specs.State.{DeskPart}
+use Rattle.moka_hist.specs.Visits.{is_running, runs}
 use Rattle.moka_hist.proofs.Owners.{is_none_of}
+use Rattle.moka_desk.specs.Notices.{running}
 use Rattle.moka_desk.specs.Past.{AllowsAlike}
 use Rattle.moka_desk.specs.StandsFor.{StandsFor}
 use Rattle.moka_desk.specs.Writes.{ForgetsIn, write_part}
 use Rattle.moka_desk.specs.declared.state.Desk.{Desk}
+use Rattle.moka_desk.proofs.Allowed.{runs_where_kept}
 use Rattle.moka_desk.proofs.Noticed.{unopened_past, unopened_running}
 use Rattle.moka_desk.proofs.Sounding.{sound_apart, sound_holder, sound_once}
 
@@ -53,6 +57,8 @@ module _ {K V E S H : Type 0} {same : PartialEq.Ghosts K} {hash : Hash.Ghosts K}
       one_locker = s.one_locker;
       locks = s.locks;
       locked = s.locked;
+      keeps = s.keeps;
+      apart = s.apart;
       one_id = s.one_id;
     };
     holds = (none, record { stands = f.unused.stands; held = f.unused.held });
@@ -95,6 +101,8 @@ module _ {K V E S H : Type 0} {same : PartialEq.Ghosts K} {hash : Hash.Ghosts K}
       one_locker = s.one_locker;
       locks = s.locks;
       locked = s.locked;
+      keeps = λ n is. still n (call == n) refl (s.keeps n is);
+      apart = s.apart;
       one_id = s.one_id;
     };
     holds = by (call == call) refl;
@@ -102,6 +110,15 @@ module _ {K V E S H : Type 0} {same : PartialEq.Ghosts K} {hash : Hash.Ghosts K}
     by : (b : Bool) → (call == call) ≡ b → is_some (cond b None (w.notices call)) ≡ false
     by true e = refl
     by false e = absurd (eqb-false call call e refl)
+
+    -- a notice that runs is another's
+    still : (n : ℕ) (b : Bool) → (call == n) ≡ b → is_running w n ≡ true → option_map_or (λ x. runs x.state) (cond b None (w.notices n)) false ≡ true
+    still n true e is =
+        let no : false ≡ true =
+        sym quiet ∙ ap (λ m. is_some (get nat_eq desk.notices.running m)) (eqb-true call n e)
+        ∙ runs_where_kept (running n) (get nat_eq desk.notices.running n) (w.notices n) (h.notices.running n) ∙ is in
+        cc
+    still n false e is = is
 
   -- what follows from it
   pub alike_also : (P Q : DeskPart K V E → Type 0) → ((v : DeskPart K V E) → P v → Q v) → AllowsAlike eq desk w P → AllowsAlike eq desk w Q

@@ -8,6 +8,7 @@ pub mod Owing
 pub mod Numbers
 pub mod Keys
 pub mod FirstLock
+pub mod LockParts
 pub mod Noticed
 pub mod Allowed
 pub mod Parts

@@ -58,19 +58,23 @@ waits_before c call xs other e = by (waits call xs) e where
   by false e = more xs e
 
 module _ (line : ℕ → List ℕ) (place : ℕ → Option ℕ) (placed : (number call : ℕ) → waits call (line number) ≡ true → place call ≡ Some number) where
+  -- a call is on no list but that of its place
+  pub elsewhere : (call n : ℕ) → is_at (place call) n ≡ false → waits call (line n) ≡ false
+  elsewhere call n away = by (waits call (line n)) refl where
+    here : (m : ℕ) (b : Bool) → (m == m) ≡ b → (m == m) ≡ true
+    here m true e = e
+    here m false e = absurd (eqb-false m m e refl)
+
+    by : (w : Bool) → waits call (line n) ≡ w → w ≡ false
+    by false e = refl
+    by true e = absurd (no (sym away ∙ ap (λ o. is_at o n) (placed n call e) ∙ here n (n == n) refl))
+
   -- once its place is off, a call is on no list
   pub off : (call n : ℕ) → cond (is_at (place call) n) (without call (line n)) (line n) ≡ without call (line n)
   off call n = by (is_at (place call) n) refl where
-    apart : (w : Bool) → waits call (line n) ≡ w → is_at (place call) n ≡ false → w ≡ false
-    apart false e f = refl
-    apart true e f = absurd (no (sym (sym (at_itself n (n == n) refl) ∙ ap (λ o. is_at o n) (sym (placed n call e)) ∙ f))) where
-      at_itself : (m : ℕ) (b : Bool) → (m == m) ≡ b → (m == m) ≡ true
-      at_itself m true e = e
-      at_itself m false e = absurd (eqb-false m m e refl)
-
     by : (b : Bool) → is_at (place call) n ≡ b → cond b (without call (line n)) (line n) ≡ without call (line n)
     by true e = refl
-    by false e = sym (without_absent call (line n) (apart (waits call (line n)) refl e))
+    by false e = sym (without_absent call (line n) (elsewhere call n e))
 
   pub off_none : (call : ℕ) → place call ≡ None → (n : ℕ) → line n ≡ without call (line n)
   off_none call none n = ap (λ o. cond (is_at o n) (without call (line n)) (line n)) (sym none) ∙ off call n

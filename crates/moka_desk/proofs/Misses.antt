@@ -1,6 +1,6 @@
 -- Who is listed misses its thing still, as the lists and the state change.
 use Rattle.std.proofs.Common.{◌≡◌, ◌≢◌, ℕ, ◌==◌, Bool, true, false, not, cond, ◌&&◌, ◌||◌, List, [], ◌∷◌, Option, Some, None, is_some, IsSome, IsNone, IsSomeAnd, nat_eq, refl, sym, ap, ◌∙◌, subst}
-use Rattle.std.specs.Option.{option_map, option_map_or}
+use Rattle.std.specs.Option.{option_map, option_map_or, option_or}
 use Rattle.std.specs.HashMap.{HashMap, get}
 use Rattle.std.proofs.lemmas.Bool.{eqb-true, eqb-false}
 use Rattle.moka_hist.specs.Finite.{put_at}
@@ -35,6 +35,14 @@ module _ (old new : ℕ → List ℕ) (Is Then : ℕ → ℕ → Type 0) where
   pub come_listed : (number : ℕ) → ((n : ℕ) → new n ≡ cond (number == n) [] (old n)) → ((n c : ℕ) → (number == n) ≡ false → Is n c → Then n c) → EachListed old Is → EachListed new Then
   come_listed number come keep h n c is = by (number == n) refl (sym (ap (waits c) (come n)) ∙ is) where
     by : (b : Bool) → (number == n) ≡ b → waits c (cond b [] (old n)) ≡ true → Then n c
+    by true e on = absurd (no on)
+    by false e on = keep n c e (h n c on)
+
+  -- so they do if that thing has come
+  pub come_if_listed : (number : ℕ) (come : Bool) → ((n : ℕ) → new n ≡ cond (come && number == n) [] (old n)) →
+      ((n c : ℕ) → (come && number == n) ≡ false → Is n c → Then n c) → EachListed old Is → EachListed new Then
+  come_if_listed number come gone keep h n c is = by (come && number == n) refl (sym (ap (waits c) (gone n)) ∙ is) where
+    by : (b : Bool) → (come && number == n) ≡ b → waits c (cond b [] (old n)) ≡ true → Then n c
     by true e on = absurd (no on)
     by false e on = keep n c e (h n c on)
 
@@ -134,3 +142,34 @@ by_cases P on off false = off
 pub by_option : {A : Type 0} (P : Option A → Type 0) → P None → ((x : A) → P (Some x)) → (o : Option A) → P o
 by_option P empty full None = empty
 by_option P empty full (Some x) = full x
+
+-- ---- the key whose lock is held under a number
+
+pub none_or : {A : Type 0} (x y : Option A) → IsNone x → IsNone y → IsNone (option_or x y)
+none_or None y e f = f
+none_or (Some a) y e f = cc
+
+-- a call takes a lock
+pub some_or : {A : Type 0} (b : Bool) (a : A) (x y : Option A) → IsSome (option_or x y) → IsSome (option_or (cond b (Some a) x) y)
+some_or true a x y is = refl
+some_or false a x y is = is
+
+-- a lock is free, and what is held under another number stays
+pub some_but : {A : Type 0} (b : Bool) (x y : Option A) → b ≡ false → IsSome (option_or x y) → IsSome (option_or (cond b None x) y)
+some_but true x y e is = cc
+some_but false x y e is = is
+
+-- a call leaves: what is held under its number stays, where its notice runs
+pub some_left : {A : Type 0} (runs b : Bool) (x y u : Option A) → (not runs && b) ≡ false → (b ≡ true → u ≡ option_or x y) → IsSome (option_or x y) →
+    IsSome (option_or (cond b None x) (cond b (cond runs u None) y))
+some_left runs false x y u e same is = is
+some_left true true x y u e same is = ap is_some (same refl) ∙ is
+some_left false true x y u e same is = cc
+
+-- a notice ends that kept nothing, or what is held under another number
+pub some_ended : {A : Type 0} (keeps b : Bool) (x y : Option A) → (keeps && b) ≡ false → (b ≡ true → is_some y ≡ keeps) → IsSome (option_or x y) →
+    IsSome (option_or x (cond b None y))
+some_ended keeps false x y e same is = is
+some_ended true true x y e same is = cc
+some_ended false true None y e same is = absurd (no (sym (same refl) ∙ is))
+some_ended false true (Some a) y e same is = refl

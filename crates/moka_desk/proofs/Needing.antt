@@ -51,7 +51,7 @@ module _ {K V E : Type 0} where
   meets_is_may w call (visit.Clock n) is = along (λ m. HoldsNoWrite w m) n call is
   meets_is_may w call (visit.TakeOwed n) is = along (λ m. IsNone (w.holding m)) n call is
   meets_is_may w call (visit.NoticeEnded n number) is = ((λ h. h), (λ h. h))
-  meets_is_may w call (visit.LockKey n key) is = along (λ m. IsNone (w.locked m)) n call is
+  meets_is_may w call (visit.LockKey n key) is = along (λ m. IsNone (w.locked m) × IsNone (w.kept m)) n call is
   meets_is_may w call (visit.UnlockKey n wrote) is = along (λ m. IsSome (w.locked m) × (wrote ≡ false → HoldsNoWrite w m)) n call is
   meets_is_may w call (visit.OpenNotice n key value stamp modified cause upsert) is = along (λ m. IsNone (w.notices m)) n call is
   meets_is_may w call (visit.StampMoment n) is = along (λ m. IsNone (w.holding m) × IsUnused w m) n call is

@@ -140,6 +140,12 @@ module _ {K V E S H : Type 0} {same : PartialEq.Ghosts K} {hash : Hash.Ghosts K}
       ended (λ n. get nat_eq loads.settled n) w.settled h.settled (w.joined call) joins
       (ap (λ o. is_some (unsettled o (λ n. get nat_eq loads.settled n))) (sym (h.joined call)) ∙ e)
 
+  pub still_awaited : (call : ℕ) → IsSome (w.joined call) → is_some (settlement_for w call) ≡ false → is_some (unsettled (get nat_eq loads.joined call) (λ n. get nat_eq loads.settled n)) ≡ true
+  still_awaited call joins none = by (is_some (unsettled (get nat_eq loads.joined call) (λ n. get nat_eq loads.settled n))) refl where
+    by : (b : Bool) → is_some (unsettled (get nat_eq loads.joined call) (λ n. get nat_eq loads.settled n)) ≡ b → b ≡ true
+    by true e = refl
+    by false e = absurd (no (sym (has_ended call joins e) ∙ none))
+
 -- ---- who is listed
 
 module _ {A B : Type 0} (line : ℕ → List ℕ) (joined : ℕ → Option ℕ) (settled : ℕ → Option A) (owning : ℕ → Option B)

@@ -1,5 +1,5 @@
 -- Those that wait for an owner, as one goes.
-use Rattle.std.proofs.Common.{◌≡◌, ℕ, ◌+◌, ◌-◌, ◌==◌, Bool, true, false, cond, ◌&&◌, List, [], ◌∷◌, Option, None, Some, MatchOption, unwrap_or, refl, sym, ap, ◌∙◌, arith}
+use Rattle.std.proofs.Common.{◌≡◌, ℕ, ◌+◌, ◌-◌, ◌==◌, Bool, true, false, cond, ◌&&◌, List, [], ◌∷◌, Option, None, Some, MatchOption, refl, sym, ap, ◌∙◌, arith}
 use Rattle.std.specs.List.Sorted.{IsPermutation}
 use Rattle.std.specs.Map.{lookup, remove_entry}
 use Rattle.std.specs.Option.{option_map_or}
@@ -90,12 +90,6 @@ counted_more counts xs ys call owner n counted more =
           let here : counts owner ≡ counts n = ap counts (eqb-true owner n e) in
           omega (arith, here, f)
       by false e f = omega (arith, f)
-
--- a count, where one was put in
-pub count_put : (b : Bool) (count : ℕ) (o : Option ℕ) →
-    unwrap_or (cond b (Some count) o) 0 ≡ cond b count (unwrap_or o 0)
-count_put true count o = refl
-count_put false count o = refl
 
 -- what holds where there is nothing
 pub where_none : {A : Type 0} (o : Option A) (P : Type 0) (Q : A → Type 0) → MatchOption o P Q → o ≡ None → P

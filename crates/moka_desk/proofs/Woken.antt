@@ -170,6 +170,17 @@ left_taken call c xs was = by (call == c) refl where
       (ap (λ k. waits k (without call xs)) (sym (eqb-true call c e)) ∙ waits_no_more call xs)
   by false e = ap (λ b. b || was) (others_without c call xs e)
 
+-- they are handed out unless the call's notice runs
+pub left_if : (call : ℕ) (xs : List ℕ) (runs : Bool) → cond (not runs) (without call xs) [] ≡ without call (cond runs [] xs)
+left_if call xs true = refl
+left_if call xs false = refl
+
+pub left_taken_if : (call c : ℕ) (xs : List ℕ) (was runs : Bool) →
+    (waits c (cond (not runs) (without call xs) []) || cond (call == c) false was)
+    ≡ cond (call == c) false (waits c (cond runs [] xs) || was)
+left_taken_if call c xs was true = refl
+left_taken_if call c xs was false = left_taken call c xs was
+
 -- the one call that waits for an answer is handed out with it
 pub told_out : (call n : ℕ) (waiting was : Bool) → ((call == n) ≡ true → was ≡ false) →
     cond (call == n) waiting was ≡ (waits n (cond waiting (call ∷ []) []) || was)

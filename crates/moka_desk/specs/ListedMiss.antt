@@ -6,7 +6,7 @@ use Rattle.std.specs.declared.hash.Hasher as Hasher
 use Rattle.std.specs.declared.hash.BuildHasher as BuildHasher
 use Rattle.moka_hist.specs.State.{DeskPart}
 use Rattle.moka_hist.specs.Conditions.{MayVisit}
-use Rattle.moka_hist.specs.Visits.{is_running, makes}
+use Rattle.moka_hist.specs.Visits.{is_running, key_under, makes}
 use Rattle.moka_hist.specs.declared.visits.Visit.{Visit}
 use Rattle.moka_sync.specs.Waiting.{waits}
 use Rattle.moka_desk.specs.StandsFor.{StandsFor}
@@ -18,7 +18,7 @@ abbrev pub EachListed : (ℕ → List ℕ) → (ℕ → ℕ → Type 0) → Type
 EachListed line Is = (number call : ℕ) → waits call (line number) ≡ true → Is number call
 
 -- Each call that is listed misses that thing: another has the turn; it waits for an owner that has
--- not settled; its ask is open; another holds a lock; the notice runs.
+-- not settled; its ask is open; a lock is held under another number; the notice runs.
 pub record ListedMiss {K V E S H : Type 0} {same : PartialEq.Ghosts K} {hash : Hash.Ghosts K}
     {build : BuildHasher.Ghosts S H} {hasher : Hasher.Ghosts H}
     (desk : Desk K V E S H same hash build hasher) (w : DeskPart K V E) : Type 0 where
@@ -26,7 +26,7 @@ pub record ListedMiss {K V E S H : Type 0} {same : PartialEq.Ghosts K} {hash : H
   pub settlements : EachListed (settlement_line desk)
       (λ n call. (w.joined call ≡ Some n) × IsNone (w.settled n))
   pub answers : EachListed (answer_line desk) (λ n call. (n ≡ call) × IsSome (w.asks n))
-  pub locks : EachListed (lock_line desk) (λ n call. IsSome (w.locked n) × (n ≢ call))
+  pub locks : EachListed (lock_line desk) (λ n call. IsSome (key_under w n) × (n ≢ call))
   pub notices : EachListed (notice_line desk) (λ n call. is_running w n ≡ true)
 
 module _ {K V E S H : Type 0} {same : PartialEq.Ghosts K} {hash : Hash.Ghosts K}

@@ -51,7 +51,7 @@ module _ {K V E : Type 0} where
   Meets w call need.Clock = HoldsNoWrite w call
   Meets w call need.TakeOwed = IsNone (w.holding call)
   Meets w call need.NoticeEnded = Unit {0}
-  Meets w call need.LockKey = IsNone (w.locked call)
+  Meets w call need.LockKey = IsNone (w.locked call) × IsNone (w.kept call)
   Meets w call (need.UnlockKey wrote) =
       IsSome (w.locked call) × (wrote ≡ false → HoldsNoWrite w call)
   Meets w call need.OpenNotice = IsNone (w.notices call)

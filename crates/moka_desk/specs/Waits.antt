@@ -1,5 +1,5 @@
 -- Who waits at the desk, and for what.
-use Rattle.std.specs.Prelude.{◌≡◌, ℕ, ◌+◌, ◌==◌, true, cond, List, [], Option, Some, nat_eq, IsNone, IsSome}
+use Rattle.std.specs.Prelude.{◌≡◌, ℕ, ◌+◌, ◌==◌, Bool, true, not, cond, ◌&&◌, List, [], ◌++◌, Option, Some, is_some, nat_eq, IsNone, IsSome}
 use Rattle.std.specs.HashMap.{get}
 use Rattle.std.specs.declared.cmp.PartialEq as PartialEq
 use Rattle.std.specs.declared.hash.Hash as Hash
@@ -15,6 +15,7 @@ use Rattle.moka_sync.specs.Waiting.{waits, without}
 use Rattle.moka_desk.specs.Asks.{asker_at}
 use Rattle.moka_desk.specs.Loads.{unsettled}
 use Rattle.moka_desk.specs.Lines.{line_at, is_at, with_call}
+use Rattle.moka_desk.specs.Locks.{is_kept, lock_under}
 use Rattle.moka_desk.specs.declared.state.Desk.{Desk}
 
 -- A list of those that wait, by the number that it has: nobody comes or goes; the call leaves each;
@@ -30,6 +31,10 @@ waits_at place call n calls = cond (is_at place n) (with_call call calls) (witho
 
 abbrev pub comes : ℕ → ℕ → List ℕ → List ℕ
 comes number n calls = cond (number == n) [] calls
+
+-- and so if the thing has come
+abbrev pub comes_if : Bool → ℕ → ℕ → List ℕ → List ℕ
+comes_if come number n calls = cond (come && number == n) [] calls
 
 module _ {K V E : Type 0} where
   -- the call, which waits for nobody, waits for this owner
@@ -55,6 +60,26 @@ module _ {K V E S H : Type 0} {same : PartialEq.Ghosts K} {hash : Hash.Ghosts K}
   abbrev pub notice_line : Desk K V E S H same hash build hasher → ℕ → List ℕ
   notice_line desk number = line_at desk.waits.notices.lists number
 
+  -- the notice of this number runs; and it keeps a lock, since its call was dropped
+  abbrev pub is_heard : Desk K V E S H same hash build hasher → ℕ → Bool
+  is_heard desk number = is_some (get nat_eq desk.notices.running number)
+
+  abbrev pub is_keeper : Desk K V E S H same hash build hasher → ℕ → Bool
+  is_keeper desk number = is_kept (lock_under desk.locks number)
+
+  -- those that wait for the lock of this call and are handed out as it leaves: all, unless its
+  -- notice keeps that lock
+  abbrev pub left_line : Desk K V E S H same hash build hasher → ℕ → List ℕ
+  left_line desk call = cond (is_heard desk call) [] (lock_line desk call)
+
+  -- those that wait for the lock which the notice of this number keeps, if it keeps one
+  abbrev pub kept_line : Desk K V E S H same hash build hasher → ℕ → List ℕ
+  kept_line desk number = cond (is_keeper desk number) (lock_line desk number) []
+
+  -- those that a notice hands out as it ends
+  abbrev pub ended_line : Desk K V E S H same hash build hasher → ℕ → List ℕ
+  ended_line desk number = notice_line desk number ++ kept_line desk number
+
   -- the owner that the call waits for, where it has not settled
   abbrev pub awaited : Desk K V E S H same hash build hasher → ℕ → Option ℕ
   awaited desk call =
@@ -77,8 +102,8 @@ module _ {K V E S H : Type 0} {same : PartialEq.Ghosts K} {hash : Hash.Ghosts K}
   told_line desk number answer.Nothing = answer_line desk number
   told_line desk number (answer.Err error) = answer_line desk number
   told_line desk number (answer.Op op) = answer_line desk number
-  told_line desk number answer.Done = notice_line desk number
-  told_line desk number answer.Off = notice_line desk number
+  told_line desk number answer.Done = ended_line desk number
+  told_line desk number answer.Off = ended_line desk number
 
   -- nobody comes to wait, and nobody leaves a list
   abbrev pub NobodyMoves : Desk K V E S H same hash build hasher →
@@ -122,15 +147,29 @@ module _ {K V E S H : Type 0} {same : PartialEq.Ghosts K} {hash : Hash.Ghosts K}
   AnswersMove old change new =
       ((n : ℕ) → answer_line new n ≡ change n (answer_line old n)) × (new.waits ≡ old.waits)
 
+  -- those that waited for the end of the notice leave its list, and those that waited for the lock
+  -- which it kept the list of that; no other list changes
+  pub record EndedMove (old : Desk K V E S H same hash build hasher) (number : ℕ)
+      (new : Desk K V E S H same hash build hasher)
+      : Type 0 where
+    pub notices : (n : ℕ) → notice_line new n ≡ comes number n (notice_line old n)
+    pub locks : (n : ℕ) →
+        lock_line new n ≡ comes_if (is_keeper old number) number n (lock_line old n)
+    pub others : new.waits
+        ≡ record old.waits { locks = new.waits.locks; notices = new.waits.notices }
+    pub asks : new.asks ≡ old.asks
+
   -- The call leaves: it is taken off each list, and the lists of its load, of its lock and of the
-  -- answer to its ask are empty then. On the other lists every other call stays.
+  -- answer to its ask are empty then; that of its lock only where its notice doesn't keep it. On the
+  -- other lists every other call stays.
   pub record LeftMove (old : Desk K V E S H same hash build hasher) (call : ℕ)
       (new : Desk K V E S H same hash build hasher)
       : Type 0 where
     pub turns : (n : ℕ) → turn_line new n ≡ without call (turn_line old n)
     pub settlements : (n : ℕ) →
         settlement_line new n ≡ comes call n (without call (settlement_line old n))
-    pub locks : (n : ℕ) → lock_line new n ≡ comes call n (without call (lock_line old n))
+    pub locks : (n : ℕ) →
+        lock_line new n ≡ comes_if (not (is_heard old call)) call n (without call (lock_line old n))
     pub notices : (n : ℕ) → notice_line new n ≡ without call (notice_line old n)
     pub answers : (n : ℕ) → answer_line new n ≡ comes call n (answer_line old n)
 
@@ -142,5 +181,5 @@ module _ {K V E S H : Type 0} {same : PartialEq.Ghosts K} {hash : Hash.Ghosts K}
   ToldMove old number answer.Nothing new = AnswersMove old (comes number) new
   ToldMove old number (answer.Err error) new = AnswersMove old (comes number) new
   ToldMove old number (answer.Op op) new = AnswersMove old (comes number) new
-  ToldMove old number answer.Done new = NoticesMove old (comes number) new
-  ToldMove old number answer.Off new = NoticesMove old (comes number) new
+  ToldMove old number answer.Done new = EndedMove old number new
+  ToldMove old number answer.Off new = EndedMove old number new

@@ -9,7 +9,7 @@ use Rattle.moka_hist.specs.declared.events.Told.TheVariants as answer
 use Rattle.moka_hist.specs.declared.visits.Claim.{Claim}
 use Rattle.moka_hist.specs.declared.visits.Claim.TheVariants as claim
 use Rattle.moka_desk.specs.ListedMiss.{EachListed}
-use Rattle.moka_desk.specs.Waits.{turn_line, settlement_line, lock_line, notice_line, answer_line}
+use Rattle.moka_desk.specs.Waits.{turn_line, settlement_line, lock_line, notice_line, answer_line, kept_line}
 use Rattle.moka_desk.specs.Woken.{is_out, is_told, all_but, and_calls}
 use Rattle.moka_desk.specs.declared.state.Desk.{Desk}
 
@@ -109,12 +109,24 @@ module _ {K V E S H : Type 0} {same : PartialEq.Ghosts K} {hash : Hash.Ghosts K}
       Desk K V E S H same hash build hasher → Type 0
   NoticesWake old change new = Wake old (λ l. record l { notices = change l.notices }) new
 
-  -- these calls, that waited for such an answer, come to it
-  abbrev pub ToldWake : Desk K V E S H same hash build hasher → Told V E → List ℕ →
+  -- those that waited for the end of this notice come to it, and those that waited for the lock
+  -- which it kept
+  abbrev pub EndedWake : Desk K V E S H same hash build hasher → ℕ →
       Desk K V E S H same hash build hasher → Type 0
-  ToldWake old (answer.Value value) calls new = AnswersWake old (and_calls calls) new
-  ToldWake old answer.Nothing calls new = AnswersWake old (and_calls calls) new
-  ToldWake old (answer.Err error) calls new = AnswersWake old (and_calls calls) new
-  ToldWake old (answer.Op op) calls new = AnswersWake old (and_calls calls) new
-  ToldWake old answer.Done calls new = NoticesWake old (and_calls calls) new
-  ToldWake old answer.Off calls new = NoticesWake old (and_calls calls) new
+  EndedWake old number new =
+      Wake old
+      (λ l. record l {
+        locks = and_calls (kept_line old number) l.locks;
+        notices = and_calls (notice_line old number) l.notices;
+      })
+      new
+
+  -- these calls, that waited for such an answer to the ask of this number, come to it
+  abbrev pub ToldWake : Desk K V E S H same hash build hasher → ℕ → Told V E → List ℕ →
+      Desk K V E S H same hash build hasher → Type 0
+  ToldWake old number (answer.Value value) calls new = AnswersWake old (and_calls calls) new
+  ToldWake old number answer.Nothing calls new = AnswersWake old (and_calls calls) new
+  ToldWake old number (answer.Err error) calls new = AnswersWake old (and_calls calls) new
+  ToldWake old number (answer.Op op) calls new = AnswersWake old (and_calls calls) new
+  ToldWake old number answer.Done calls new = EndedWake old number new
+  ToldWake old number answer.Off calls new = EndedWake old number new

@@ -5,7 +5,7 @@ ghost use Rattle.std.specs.Option.{option_map, option_map_or};
 ghost use Rattle.moka_hist.specs.Telling.{does_take as takes_answer};
 ghost use Rattle.std.specs.HashMap.{get, spare, hash_map_len};
 
-use crate::maps::put;
+use crate::maps::{put, remove_at, take_at};
 use moka_hist::{Takes, Told};
 use moka_room::map_room;
 use moka_sync::{CallList, WaitPlace};
@@ -75,7 +75,7 @@ impl<V: Drop, E: Drop> Asks<V, E> {
         map_room::reserve(&mut self.open_asks, 1)?;
         let place = WaitPlace::new(self.alloc)?;
         put(&mut self.open_asks, call, OpenAsk { takes, place });
-        drop(self.told.remove(&call));
+        take_at(&mut self.told, call);
         Ok(())
     }
 
@@ -123,13 +123,13 @@ impl<V: Drop, E: Drop> Asks<V, E> {
             ≡ asks_if (is_open self.old.open_asks call) call n (asker_at self.old.open_asks n) }
         ensures back { (n : ℕ) → is_told self.new n ≡ all_but call (is_told self.old) n }
     {
+        if let Some(answer) = remove_at(&mut self.told, call) {
+            return Some(answer.told);
+        }
         if let Some(ask) = self.open_asks.get_mut(&call) {
             ask.place.wait();
         }
-        match self.told.remove(&call) {
-            Some(answer) => Some(answer.told),
-            None => None,
-        }
+        None
     }
 
     /// The call asks nothing any more, and what it was told goes.
@@ -142,8 +142,8 @@ impl<V: Drop, E: Drop> Asks<V, E> {
             → asker_at self.new.open_asks n ≡ cond (call == n) [] (asker_at self.old.open_asks n) }
         ensures back { (n : ℕ) → is_told self.new n ≡ all_but call (is_told self.old) n }
     {
-        drop(self.open_asks.remove(&call));
-        drop(self.told.remove(&call));
+        take_at(&mut self.open_asks, call);
+        take_at(&mut self.told, call);
     }
 
     /// Whether the call was handed out with an answer that it has not taken.

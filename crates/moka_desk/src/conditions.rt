@@ -3,6 +3,7 @@
 ghost use Rattle.std.specs.Prelude.{◌≡◌, ◌||◌, true, false, Some, None, IsTrue, IsSome, IsNone, IsSomeAnd, ◌↔◌};
 
 use crate::Desk;
+use crate::maps::has_at;
 use moka_hist::{Holding, Kind, Load, Write};
 use moka_needs::{Ending, Need};
 use moka_values::Exact;
@@ -136,12 +137,23 @@ impl<K: Eq + Hash + Exact, V: Drop, E: Drop, S: BuildHasher + Drop> Desk<K, V, E
         self.holds_nothing(call) && self.writes.is_unused(call)
     }
 
-    // The call holds no lock.
+    // The call holds no lock, and its notice keeps none.
     fn locked_nothing(&self, call: u64) -> bool
         ensures { (w : DeskPart K V E) → StandsFor K.eq self.now w
-            → IsTrue result ↔ IsNone (w.locked call) }
+            → IsTrue result ↔ (IsNone (w.locked call) × IsNone (w.kept call)) }
     {
-        !self.locks.holds_one(call)
+        self.locks.kept_under(call).is_none()
+    }
+
+    // The call holds a lock.
+    fn holds_lock(&self, call: u64) -> bool
+        ensures { (w : DeskPart K V E) → StandsFor K.eq self.now w
+            → IsTrue result ↔ IsSome (w.locked call) }
+    {
+        match self.locks.kept_under(call) {
+            Some(kept) => !kept,
+            None => false,
+        }
     }
 
     // The call holds a lock, and took no write up where nothing was written.
@@ -149,7 +161,7 @@ impl<K: Eq + Hash + Exact, V: Drop, E: Drop, S: BuildHasher + Drop> Desk<K, V, E
         ensures { (w : DeskPart K V E) → StandsFor K.eq self.now w → IsTrue result
             ↔ (IsSome (w.locked call) × (wrote ≡ false → HoldsNoWrite w call)) }
     {
-        !self.locked_nothing(call) && (wrote || self.holds_no_write(call))
+        self.holds_lock(call) && (wrote || self.holds_no_write(call))
     }
 
     // The call owns no load, and waits for no owner.
@@ -157,7 +169,7 @@ impl<K: Eq + Hash + Exact, V: Drop, E: Drop, S: BuildHasher + Drop> Desk<K, V, E
         ensures { (w : DeskPart K V E) → StandsFor K.eq self.now w
             → IsTrue result ↔ (IsNone (w.owning call) × IsNone (w.joined call)) }
     {
-        !self.loads.owning.contains_key(&call) && !self.loads.joined.contains_key(&call)
+        !has_at(&self.loads.owning, call) && !has_at(&self.loads.joined, call)
     }
 
     // An owner of the load, if there is one, has not settled.
@@ -166,7 +178,7 @@ impl<K: Eq + Hash + Exact, V: Drop, E: Drop, S: BuildHasher + Drop> Desk<K, V, E
             → IsTrue result ↔ HasUnsettled w load.now }
     {
         match self.loads.owners.get(load) {
-            Some(owner) => !self.loads.settled.contains_key(owner),
+            Some(owner) => !has_at(&self.loads.settled, *owner),
             None => true,
         }
     }
@@ -204,7 +216,7 @@ impl<K: Eq + Hash + Exact, V: Drop, E: Drop, S: BuildHasher + Drop> Desk<K, V, E
         ensures { (w : DeskPart K V E) → StandsFor K.eq self.now w
             → IsTrue result ↔ (IsNone (w.asks call) × IsNone (w.told call)) }
     {
-        !self.asks.open_asks.contains_key(&call) && !self.asks.told.contains_key(&call)
+        !has_at(&self.asks.open_asks, call) && !has_at(&self.asks.told, call)
     }
 
     // The call has the maintenance turn.

@@ -1,11 +1,11 @@
 //! The calls that wait for the things of others, thing by thing.
 
-ghost use Rattle.std.specs.Prelude.{◌≡◌, ℕ, ◌==◌, true, false, cond, Some, [], ◌++◌, nat_eq, OnOk, OnErr};
+ghost use Rattle.std.specs.Prelude.{◌≡◌, ℕ, ◌==◌, true, false, cond, ◌&&◌, Some, [], ◌++◌, nat_eq, OnOk, OnErr};
 ghost use Rattle.std.specs.HashMap.{get};
 ghost use Rattle.moka_sync.specs.Waiting.{waits, without};
 ghost use Rattle.moka_desk.specs.Lines.{calls_in, is_at, line_at, with_call};
 
-use crate::maps::put;
+use crate::maps::{at, put};
 use moka_room::map_room;
 use moka_sync::{CallList, WaitList};
 use std::alloc::{AllocError, Global};
@@ -52,12 +52,12 @@ impl Lines {
             is_out self.new c ≡ all_but call (is_out self.old) c) }
         ensures still { OnErr result ((c : ℕ) → is_out self.new c ≡ is_out self.old c) }
     {
-        if self.is_listed(number, call) {
+        let before = at(&self.places, call).copied();
+        if self.is_listed_at(before, number, call) {
             return Ok(());
         }
         map_room::reserve(&mut self.places, 1)?;
         add_to(self.alloc, &mut self.lists, number, call)?;
-        let before = self.places.get(&call).copied();
         move_off(&mut self.lists, before, number, call);
         put(&mut self.places, call, number);
         Ok(())
@@ -71,9 +71,8 @@ impl Lines {
         if self.places.is_empty() {
             return;
         }
-        if let Some(number) = self.places.get(&call).copied() {
+        if let Some(number) = self.places.remove(&call) {
             remove_from(&mut self.lists, number, call);
-            let _ = self.places.remove(&call);
         }
     }
 
@@ -93,6 +92,20 @@ impl Lines {
         self.lists.remove(&number)
     }
 
+    /// Takes the list of those that wait for the thing of this number, if that has come.
+    pub(crate) fn take_if(&mut self, number: u64, come: bool) -> Option<WaitList>
+        ensures all { calls_in result ≡ cond come (line_at self.old.lists number) [] }
+        ensures none { (n : ℕ) → line_at self.new.lists n ≡
+            cond (come && number == n) [] (line_at self.old.lists n) }
+        ensures woken { (c : ℕ) → is_out self.new c
+            ≡ and_calls (cond come (line_at self.old.lists number) []) (is_out self.old) c }
+    {
+        match come {
+            true => self.take(number),
+            false => None,
+        }
+    }
+
     /// Hands out those that wait for the thing of this number, which has come.
     pub(crate) fn hand_out(&mut self, number: u64) -> CallList
         ensures all { result ≡ line_at self.old.lists number }
@@ -109,10 +122,22 @@ impl Lines {
     pub(crate) fn is_woken(&self, call: u64) -> bool
         ensures { result ≡ is_out self.now call }
     {
-        let Some(number) = self.places.get(&call).copied() else {
+        let Some(number) = at(&self.places, call).copied() else {
             return false;
         };
         !self.is_listed(number, call)
+    }
+
+    // Whether the call, which has this place, is listed for the thing of this number. Nothing is
+    // looked up where its place is another.
+    fn is_listed_at(&self, place: Option<u64>, number: u64, call: u64) -> bool
+        requires { place ≡ get nat_eq self.now.places call }
+        ensures { result ≡ waits call (line_at self.now.lists number) }
+    {
+        if is_at(place, number) {
+            return self.is_listed(number, call);
+        }
+        false
     }
 
     // Whether the call is listed for the thing of this number.
@@ -132,7 +157,7 @@ fn hand_all(alloc: Global, list: Option<WaitList>) -> CallList
     ensures { result ≡ calls_in list }
 {
     match list {
-        Some(mut list) => list.take_all(),
+        Some(list) => list.into_calls(),
         None => CallList::new(alloc),
     }
 }
@@ -154,12 +179,12 @@ pub(crate) fn hand_both(
 
 // Hands out those on the first list, and then those on the second, if there is one.
 #[inline(never)]
-fn hand_with(mut first: WaitList, second: Option<WaitList>) -> CallList
+fn hand_with(first: WaitList, second: Option<WaitList>) -> CallList
     ensures { result ≡ first.calls ++ calls_in second }
 {
     match second {
         Some(second) => first.take_both(second),
-        None => first.take_all(),
+        None => first.into_calls(),
     }
 }
 
@@ -195,11 +220,24 @@ fn move_off(lists: &mut HashMap<u64, WaitList>, before: Option<u64>, number: u64
     }
 }
 
-// Takes the call off the list of this number.
+// Whether the place is the one of this number.
+fn is_at(place: Option<u64>, number: u64) -> bool
+    ensures { result ≡ is_at place number }
+{
+    match place {
+        Some(there) => there == number,
+        None => false,
+    }
+}
+
+// Takes the call off the list of this number. Nothing is hashed where nobody is listed.
 fn remove_from(lists: &mut HashMap<u64, WaitList>, number: u64, call: u64)
     ensures { (n : ℕ) → line_at lists.new n
         ≡ cond (number == n) (without call (line_at lists.old n)) (line_at lists.old n) }
 {
+    if lists.is_empty() {
+        return;
+    }
     if let Some(list) = lists.get_mut(&number) {
         list.remove(call);
     }

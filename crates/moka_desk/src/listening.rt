@@ -1,12 +1,13 @@
 //! The visits that see to keys' locks and to the listener.
 
-ghost use Rattle.std.specs.Prelude.{◌≡◌, ℕ, true, false, Some, IfOk, OnOk, OnErr};
+ghost use Rattle.std.specs.Prelude.{◌≡◌, ◌≢◌, ℕ, true, false, cond, Some, None, IfOk, OnOk, OnErr};
 ghost use Rattle.std.specs.Bool.{OnTrue, OnFalse};
 ghost use Rattle.moka_sync.specs.Waiting.{waits};
 
 use crate::Desk;
+use crate::lines::hand_both;
 use crate::notices::Heard;
-use moka_hist::Cause;
+use moka_hist::{Cause, LockTaken};
 use moka_sync::CallList;
 use moka_values::Exact;
 use std::alloc::AllocError;
@@ -15,32 +16,34 @@ use std::hash::{BuildHasher, Hash};
 impl<K: Eq + Hash + Exact, V: Drop, E: Drop, S: BuildHasher + Drop> Desk<K, V, E, S> {
     ghost use Rattle.moka_hist.specs.State.{DeskPart};
     ghost use Rattle.moka_hist.specs.Telling.{heard, MayEnd};
-    ghost use Rattle.moka_hist.specs.Visits.{is_running};
+    ghost use Rattle.moka_hist.specs.Visits.{is_running, keeper};
     ghost use Rattle.moka_hist.specs.declared.visits.Visit.TheVariants as visit;
     ghost use Rattle.moka_hist.specs.declared.visits.Found.TheVariants as found;
-    ghost use Rattle.moka_desk.specs.Waits.{comes, leaves, lock_line, notice_line, stays, waits_at, LocksMove, NoticesMove, NobodyMoves};
-    ghost use Rattle.moka_desk.specs.WakeList.{LocksWake, NobodyWakes, NoticesWake};
+    ghost use Rattle.moka_hist.specs.declared.visits.LockTaken.TheVariants as lock;
+    ghost use Rattle.moka_desk.specs.Waits.{comes, ended_line, is_keeper, leaves, lock_line, notice_line, stays, waits_at, EndedMove, LocksMove, NoticesMove, NobodyMoves};
+    ghost use Rattle.moka_desk.specs.WakeList.{EndedWake, LocksWake, NobodyWakes, NoticesWake};
     ghost use Rattle.moka_desk.specs.Woken.{all_but, and_calls};
     ghost use Rattle.moka_desk.specs.History.{KeepsAsBefore};
     ghost use Rattle.moka_desk.specs.Locks.{holder_of};
     ghost use Rattle.moka_desk.specs.StandsFor.{StandsFor, Can, Finds, Makes, Stays};
     ghost use Rattle.moka_desk.specs.ListedMiss.{MissAfter, MissWith};
 
-    /// Takes the key's lock for the call, which holds none. Answers false where another call holds
-    /// it; the call waits for it then. Where it is listed for that already no memory is wanted.
+    /// Takes the key's lock for the call, under whose number none is held. Where another call holds
+    /// it, or the running notice of a dropped call keeps it, it answers so, and the call waits for
+    /// it; where it is listed for that already no memory is wanted.
     #[cold]
     #[inline(never)]
-    pub fn lock_key(&mut self, call: u64, key: &K) -> Result<bool, AllocError>
+    pub fn lock_key(&mut self, call: u64, key: &K) -> Result<LockTaken, AllocError>
         requires free { Can K.eq self.old (visit.LockKey call key.now) }
-        ensures finds { IfOk result (λ locked. Finds K.eq self.old (visit.LockKey call key.now)
-            (found.LockKey locked)) }
+        ensures finds { IfOk result (λ taken. Finds K.eq self.old (visit.LockKey call key.now)
+            (found.LockKey taken)) }
         ensures makes { OnOk result (Makes K.eq self.old (visit.LockKey call key.now) self.new) }
         ensures err { OnErr result (Stays K.eq self.old self.new) }
         // who waits
-        ensures locked { IfOk result (λ locked. OnTrue locked
-            (LocksMove self.old (leaves call) self.new)) }
-        ensures waits { IfOk result (λ locked. OnFalse locked (LocksMove self.old
-            (waits_at (holder_of K.eq self.old.locks key.now) call) self.new)) }
+        ensures locked { IfOk result (λ taken. taken ≡ lock.Taken
+            → LocksMove self.old (leaves call) self.new) }
+        ensures waits { IfOk result (λ taken. taken ≢ lock.Taken → LocksMove self.old
+            (waits_at (holder_of K.eq self.old.locks key.now) call) self.new) }
         ensures unlisted { OnErr result (LocksMove self.old stays self.new) }
         ensures back { OnOk result (LocksWake self.old (all_but call) self.new) }
         ensures still { OnErr result (NobodyWakes self.old self.new) }
@@ -55,11 +58,31 @@ impl<K: Eq + Hash + Exact, V: Drop, E: Drop, S: BuildHasher + Drop> Desk<K, V, E
     {
         if let Some(holder) = self.locks.holder(key) {
             self.waits.locks.wait(holder, call)?;
-            return Ok(false);
+            return Ok(self.locks.taken(holder));
         }
         self.locks.lock(call, key)?;
         self.waits.locks.leave(call);
-        Ok(true)
+        Ok(LockTaken::Taken)
+    }
+
+    /// The notice that keeps the key's lock, if one does.
+    pub fn keeper(&self, key: &K) -> Option<u64>
+        ensures { (w : DeskPart K V E) → StandsFor K.eq self.now w → result ≡ keeper w key.now }
+    {
+        match self.locks.holder(key) {
+            Some(holder) => self.if_kept(holder),
+            None => None,
+        }
+    }
+
+    // The number, where its notice keeps a lock.
+    fn if_kept(&self, number: u64) -> Option<u64>
+        ensures { result ≡ cond (is_keeper self.now number) (Some number) None }
+    {
+        match self.locks.is_kept(number) {
+            true => Some(number),
+            false => None,
+        }
     }
 
     /// Frees the lock that the call holds, and hands out all calls that wait for it. A pending
@@ -152,19 +175,36 @@ impl<K: Eq + Hash + Exact, V: Drop, E: Drop, S: BuildHasher + Drop> Desk<K, V, E
         Ok(true)
     }
 
-    /// Ends the notice of this number, of which the listener was asked, and hands out all calls
-    /// that wait for its end. Turns the listener off, if `off`. A notice that has ended stays so.
+    /// Ends the notice of this number, of which the listener was asked, and frees the lock that it
+    /// keeps, if it keeps one. Hands out all calls that wait for its end, and then those that wait
+    /// for that lock. Turns the listener off, if `off`. A notice that has ended stays so.
     pub fn end_notice(&mut self, notice: u64, off: bool) -> CallList
         requires { (w : DeskPart K V E) × StandsFor K.eq self.old w × MayEnd (w.notices notice) }
         ensures makes { (w : DeskPart K V E) → StandsFor K.eq self.old w → MayEnd (w.notices notice)
             → StandsFor K.eq self.new (heard w notice off) }
-        ensures woken { result ≡ notice_line self.old notice }
-        ensures waits { NoticesMove self.old (comes notice) self.new }
-        ensures wakes { NoticesWake self.old (and_calls result) self.new }
+        ensures woken { result ≡ ended_line self.old notice }
+        ensures waits { EndedMove self.old notice self.new }
+        ensures wakes { EndedWake self.old notice self.new }
+        ensures misses { MissWith K.eq self.old (λ w. heard w notice off) self.new }
+        ensures kept { KeepsAsBefore self.old self.new }
+    {
+        self.end(notice, off)
+    }
+
+    /// Ends the notice of this number, if it runs, as `end_notice` does.
+    pub(crate) fn end(&mut self, notice: u64, off: bool) -> CallList
+        ensures makes { (w : DeskPart K V E) → StandsFor K.eq self.old w → MayEnd (w.notices notice)
+            → StandsFor K.eq self.new (heard w notice off) }
+        ensures woken { result ≡ ended_line self.old notice }
+        ensures waits { EndedMove self.old notice self.new }
+        ensures wakes { EndedWake self.old notice self.new }
         ensures misses { MissWith K.eq self.old (λ w. heard w notice off) self.new }
         ensures kept { KeepsAsBefore self.old self.new }
     {
         self.notices.end(notice, off);
-        self.waits.notices.hand_out(notice)
+        let kept = self.locks.release(notice);
+        let heard = self.waits.notices.take(notice);
+        let lock = self.waits.locks.take_if(notice, kept);
+        hand_both(self.waits.notices.alloc, heard, lock)
     }
 }

@@ -21,8 +21,8 @@ impl<K: Eq + Hash + Exact, V: Drop, E: Drop, S: BuildHasher + Drop> Desk<K, V, E
     ghost use Rattle.moka_hist.specs.declared.loads.Kind.TheVariants as kind;
     ghost use Rattle.moka_hist.specs.declared.visits.Visit.TheVariants as visit;
     ghost use Rattle.moka_hist.specs.declared.visits.Found.TheVariants as found;
-    ghost use Rattle.moka_desk.specs.Waits.{awaited, comes, leaves, lock_line, notice_line, settlement_line, stays, told_line, waits_at, AnswersMove, ClaimMoves, LeftMove, NobodyMoves, NoticesMove, SettlementsMove, ToldMove};
-    ghost use Rattle.moka_desk.specs.WakeList.{after_leaving, AnswersWake, ClaimWakes, NobodyWakes, NoticesWake, SettlementsWake, ToldWake, Wake};
+    ghost use Rattle.moka_desk.specs.Waits.{awaited, comes, ended_line, is_heard, leaves, left_line, lock_line, settlement_line, stays, told_line, waits_at, AnswersMove, ClaimMoves, EndedMove, LeftMove, NobodyMoves, SettlementsMove, ToldMove};
+    ghost use Rattle.moka_desk.specs.WakeList.{after_leaving, AnswersWake, ClaimWakes, EndedWake, NobodyWakes, SettlementsWake, ToldWake, Wake};
     ghost use Rattle.moka_desk.specs.Woken.{all_but, and_calls};
     ghost use Rattle.moka_desk.specs.Asks.{asks_if, is_open};
     ghost use Rattle.moka_desk.specs.History.{KeepsAsBefore};
@@ -135,10 +135,9 @@ impl<K: Eq + Hash + Exact, V: Drop, E: Drop, S: BuildHasher + Drop> Desk<K, V, E
         ensures misses_still { OnErr result (MissWith K.eq self.old (λ w. w) self.new) }
         ensures kept { KeepsAsBefore self.old self.new }
     {
-        if self.loads.awaited(call).is_some() {
+        let Some(settlement) = self.loads.read(call)? else {
             return Ok(Settled::NotYet);
-        }
-        let settlement = self.loads.read(call)?;
+        };
         self.waits.settlements.leave(call);
         Ok(settlement)
     }
@@ -175,7 +174,8 @@ impl<K: Eq + Hash + Exact, V: Drop, E: Drop, S: BuildHasher + Drop> Desk<K, V, E
 
     /// Closes the ask of this number by an answer that it takes, and hands out all calls that wait
     /// for it. What an initializer gives, or a compute is told, is kept for the call; a listener's
-    /// answer ends the notice of that number. Answers None where no such ask is open; nothing has
+    /// answer ends the notice of that number, frees the lock that it keeps, if it keeps one, and
+    /// hands out those that wait for that, too. Answers None where no such ask is open; nothing has
     /// changed then.
     pub fn tell(&mut self, number: u64, answer: Told<V, E>) -> Option<CallList>
         ensures finds { (w : DeskPart K V E) → StandsFor K.eq self.old w →
@@ -186,7 +186,7 @@ impl<K: Eq + Hash + Exact, V: Drop, E: Drop, S: BuildHasher + Drop> Desk<K, V, E
         ensures waits { MatchOption result (NobodyMoves self.old self.new)
             (λ woken. ToldMove self.old number answer self.new) }
         ensures wakes { MatchOption result (NobodyWakes self.old self.new)
-            (λ woken. ToldWake self.old answer woken self.new) }
+            (λ woken. ToldWake self.old number answer woken self.new) }
         ensures misses { MissWith K.eq self.old
             (λ w. if is_some result then with_told w number answer else w) self.new }
         ensures kept { KeepsAsBefore self.old self.new }
@@ -201,17 +201,18 @@ impl<K: Eq + Hash + Exact, V: Drop, E: Drop, S: BuildHasher + Drop> Desk<K, V, E
         }
     }
 
-    // Ends the notice of this number, where it runs, and turns the listener off, if `off`.
+    // Ends the notice of this number, where it runs, and frees the lock that it keeps; turns the
+    // listener off, if `off`.
     fn hear(&mut self, number: u64, off: bool) -> Option<CallList>
         ensures finds { (w : DeskPart K V E) → StandsFor K.eq self.old w →
             is_some result ≡ is_running w number }
         ensures makes { Becomes K.eq self.old
             (λ w. if is_some result then heard w number off else w) self.new }
-        ensures woken { IfSome result (λ woken. woken ≡ notice_line self.old number) }
-        ensures waits { OnSome result (NoticesMove self.old (comes number) self.new) }
+        ensures woken { IfSome result (λ woken. woken ≡ ended_line self.old number) }
+        ensures waits { OnSome result (EndedMove self.old number self.new) }
         ensures quiet { IfNone result (NobodyMoves self.old self.new) }
         ensures wakes { MatchOption result (NobodyWakes self.old self.new)
-            (λ woken. NoticesWake self.old (and_calls woken) self.new) }
+            (λ woken. EndedWake self.old number self.new) }
         ensures misses { MissWith K.eq self.old
             (λ w. if is_some result then heard w number off else w) self.new }
         ensures kept { KeepsAsBefore self.old self.new }
@@ -219,8 +220,7 @@ impl<K: Eq + Hash + Exact, V: Drop, E: Drop, S: BuildHasher + Drop> Desk<K, V, E
         if !self.notices.is_running(number) {
             return None;
         }
-        self.notices.end(number, off);
-        Some(self.waits.notices.hand_out(number))
+        Some(self.end(number, off))
     }
 
     /// Takes what the call was told, if its ask is closed.
@@ -238,28 +238,30 @@ impl<K: Eq + Hash + Exact, V: Drop, E: Drop, S: BuildHasher + Drop> Desk<K, V, E
     }
 
     /// Lets a dropped call leave. The write that it held, and hands in, is owed, with its notice
-    /// where that runs. Its ask is closed, its lock is free, it waits for nobody, and the calls that
-    /// wait for it read that it was dropped. A listener that it asked is still asked. Hands out the
-    /// calls that wait for its load, and then those that wait for its lock.
+    /// where that runs. Its ask is closed, it waits for nobody, and the calls that wait for it read
+    /// that it was dropped. A listener that it asked is still asked: where its own notice runs that
+    /// keeps its lock, and else its lock is free. Hands out the calls that wait for its load, and
+    /// then those that wait for its lock, where that is free now.
     pub fn leave(&mut self, call: u64, held: Option<Write>) -> CallList
         requires { CanLeave K.eq self.old call held }
         ensures makes { (w : DeskPart K V E) → StandsFor K.eq self.old w → MayLeave w call held →
             StandsFor K.eq self.new (left w call held) }
         ensures woken { result
             ≡ without call (settlement_line self.old call) ++
-            without call (lock_line self.old call) }
+            without call (left_line self.old call) }
         ensures waits { LeftMove self.old call self.new }
         ensures wakes { Wake self.old
-            (after_leaving call (settlement_line self.old call) (lock_line self.old call)) self.new }
+            (after_leaving call (settlement_line self.old call) (left_line self.old call)) self.new }
         ensures misses { MissWith K.eq self.old (λ w. left w call held) self.new }
         ensures kept { KeepsAsBefore self.old self.new }
     {
         let owed = self.owed_as(held);
+        let runs = self.notices.is_running(call);
         self.writes.leave(call, owed);
         self.loads.leave(call);
-        self.locks.free(call);
+        self.locks.leave(call, runs);
         self.asks.leave(call);
-        self.waits.leave(call)
+        self.waits.leave(call, runs)
     }
 
     // The write that is handed in, if one is, as it is owed: with its notice, where that runs.

@@ -1,13 +1,13 @@
 //! The loads that calls own and wait for.
 
-ghost use Rattle.std.specs.Prelude.{◌≡◌, ℕ, ◌+◌, ◌-◌, ◌≤◌, ◌<◌, ◌==◌, ◌&&◌, ◌^◌, cond, Option, Some, None, true, is_some, unwrap_or, nat_eq, IsNone, OnOk, OnErr, IfOk, if◌then◌else◌};
+ghost use Rattle.std.specs.Prelude.{◌≡◌, ℕ, ◌+◌, ◌-◌, ◌≤◌, ◌<◌, ◌==◌, ◌&&◌, ◌^◌, cond, Option, Some, None, true, is_some, unwrap_or, nat_eq, nat_lt, IsNone, OnOk, OnErr, IfOk, if◌then◌else◌};
 ghost use Rattle.std.specs.Bool.{OnTrue};
 ghost use Rattle.std.specs.Option.{option_and_then, option_map};
 ghost use Rattle.std.specs.HashMap.{get, spare, hash_map_len};
 ghost use Rattle.moka_needs.specs.Needs.{ending_of};
 ghost use Rattle.moka_desk.specs.Readers.{has_content, is_copied, waiting_for};
 
-use crate::maps::{put, replace};
+use crate::maps::{at, put};
 use moka_hist::{Load, Settled};
 use moka_needs::Ending;
 use moka_room::map_room;
@@ -35,11 +35,10 @@ impl<K: Eq + Hash + Exact, V: Drop, E: Drop, S: BuildHasher> Loads<K, V, E, S> {
     ghost use Rattle.moka_hist.specs.Finite.{load_eq, put_at, put_key};
     ghost use Rattle.moka_hist.specs.State.{DeskPart};
     ghost use Rattle.moka_hist.specs.declared.loads.Load.{Load as load_of};
-    ghost use Rattle.moka_hist.specs.declared.visits.Settled.TheVariants as settled;
     ghost use Rattle.moka_hist.specs.declared.writes.Write.{Write};
     ghost use Rattle.moka_hist.specs.Visits.{claimed_alone, read, readers_without, settled_without, settled_as, owners_without, settlement_for};
     ghost use Rattle.moka_hist.specs.Dropping.{left};
-    ghost use Rattle.moka_desk.specs.Loads.{load_part, unsettled, LoadsAre, LoadsBecome, LoadsStay, LoadsMake};
+    ghost use Rattle.moka_desk.specs.Loads.{load_part, LoadsAre, LoadsBecome, LoadsStay, LoadsMake};
 
     /// Nothing is owned, and nobody waits. Loads are hashed by this hasher.
     pub(crate) fn new(alloc: Global, hasher: S) -> Self
@@ -109,8 +108,8 @@ impl<K: Eq + Hash + Exact, V: Drop, E: Drop, S: BuildHasher> Loads<K, V, E, S> {
               readers = put_at p.readers owner (p.readers owner + 1);
             }) self.new }
     {
-        let waiting = self.readers_of(owner) + 1;
-        put(&mut self.readers, owner, waiting);
+        let _all = self.joined.len();
+        count_one(&mut self.readers, owner);
         put(&mut self.joined, call, owner);
     }
 
@@ -146,16 +145,15 @@ impl<K: Eq + Hash + Exact, V: Drop, E: Drop, S: BuildHasher> Loads<K, V, E, S> {
         map_room::reserve(&mut self.owning, 1)
     }
 
-    /// Reads how the owner ended that the call waits for: NotYet where it has not, or the call
-    /// waits for nobody. A call that has read it waits no longer, and the last one takes it away.
-    /// For want of memory nothing was read.
-    pub(crate) fn read(&mut self, call: u64) -> Result<Settled<V, E>, AllocError>
+    /// Reads how the owner ended that the call waits for: None where it has not, or the call waits
+    /// for nobody. A call that has read it waits no longer, and the last one takes it away. For want
+    /// of memory nothing was read.
+    pub(crate) fn read(&mut self, call: u64) -> Result<Option<Settled<V, E>>, AllocError>
     where
         V: Exact,
         E: Exact,
         ensures finds { IfOk result (λ found. (w : DeskPart K V E) →
-            LoadsAre K.eq self.old (load_part w)
-            → found ≡ unwrap_or (settlement_for w call) settled.NotYet) }
+            LoadsAre K.eq self.old (load_part w) → found ≡ settlement_for w call) }
         ensures ok { OnOk result (LoadsMake K.eq self.old (λ w. load_part (read w call)) self.new) }
         ensures err { OnErr result (self.new ≡ self.old) }
         ensures needs { OnErr result (is_copied (option_and_then (get nat_eq self.old.settled)
@@ -164,22 +162,10 @@ impl<K: Eq + Hash + Exact, V: Drop, E: Drop, S: BuildHasher> Loads<K, V, E, S> {
         match self.settlement_for(call)? {
             Some(settlement) => {
                 self.stop_waiting(call);
-                Ok(settlement)
+                Ok(Some(settlement))
             }
-            None => Ok(Settled::NotYet),
+            None => Ok(None),
         }
-    }
-
-    /// The owner that the call waits for, where it has not settled yet.
-    pub(crate) fn awaited(&self, call: u64) -> Option<u64>
-        ensures { result ≡ unsettled (get nat_eq self.now.joined call)
-            (λ owner. get nat_eq self.now.settled owner) }
-    {
-        let owner = self.joined.get(&call).copied()?;
-        if self.settled.contains_key(&owner) {
-            return None;
-        }
-        Some(owner)
     }
 
     /// Ends what the call owns, and keeps how it ended for those that wait for it.
@@ -206,8 +192,8 @@ impl<K: Eq + Hash + Exact, V: Drop, E: Drop, S: BuildHasher> Loads<K, V, E, S> {
         ensures { result ≡ option_map ending_of (option_and_then (get nat_eq self.now.settled)
             (get nat_eq self.now.joined call)) }
     {
-        let owner = self.joined.get(&call)?;
-        match self.settled.get(owner) {
+        let owner = at(&self.joined, call)?;
+        match at(&self.settled, *owner) {
             Some(settlement) => Some(ending_of(settlement)),
             None => None,
         }
@@ -223,10 +209,10 @@ impl<K: Eq + Hash + Exact, V: Drop, E: Drop, S: BuildHasher> Loads<K, V, E, S> {
         ensures needs { OnErr result (is_copied (option_and_then (get nat_eq self.now.settled)
             (get nat_eq self.now.joined call)) ≡ true) }
     {
-        let Some(owner) = self.joined.get(&call) else {
+        let Some(owner) = at(&self.joined, call) else {
             return Ok(None);
         };
-        match self.settled.get(owner) {
+        match at(&self.settled, *owner) {
             Some(settlement) => {
                 let copy = settlement_copy(settlement)?;
                 Ok(Some(copy))
@@ -310,21 +296,59 @@ fn release<V: Drop, E: Drop>(
         None (get nat_eq settled.old n) }
     ensures spare { spare settled.old ≤ spare settled.new }
 {
-    match count_in(readers, owner) {
-        0 => {}
-        1 => {
-            let _ = readers.remove(&owner);
-            drop(settled.remove(&owner));
-        }
-        waiting => replace(readers, owner, waiting - 1),
+    if count_off(readers, owner) {
+        return;
     }
+    if let Some(1) = readers.remove(&owner) {
+        drop(settled.remove(&owner));
+    }
+}
+
+// One that waited for the owner is gone, where another one waits for it: so many are counted where
+// they stand. Answers whether another one does; nothing has changed if not.
+fn count_off(readers: &mut HashMap<u64, u64>, owner: u64) -> bool
+    ensures many { result ≡ nat_lt 1 (unwrap_or (get nat_eq readers.old owner) 0) }
+    ensures readers { (n : ℕ) → unwrap_or (get nat_eq readers.new n) 0
+        ≡ cond (result && owner == n) (unwrap_or (get nat_eq readers.old owner) 0 - 1)
+        (unwrap_or (get nat_eq readers.old n) 0) }
+{
+    match readers.get_mut(&owner) {
+        Some(waiting) => lessen(waiting),
+        None => false,
+    }
+}
+
+// Takes one off, where it's more than one. Answers whether it was.
+fn lessen(count: &mut u64) -> bool
+    ensures many { result ≡ nat_lt 1 count.old }
+    ensures less { count.new ≡ cond result (count.old - 1) count.old }
+{
+    if *count > 1 {
+        *count -= 1;
+        return true;
+    }
+    false
+}
+
+// One more waits for the owner. There is room for it.
+fn count_one(readers: &mut HashMap<u64, u64>, owner: u64)
+    requires room { 0 < spare readers.old }
+    requires few { unwrap_or (get nat_eq readers.old owner) 0 < 2 ^ 63 }
+    ensures { (n : ℕ) → unwrap_or (get nat_eq readers.new n) 0 ≡ cond (owner == n)
+        (unwrap_or (get nat_eq readers.old owner) 0 + 1) (unwrap_or (get nat_eq readers.old n) 0) }
+{
+    if let Some(waiting) = readers.get_mut(&owner) {
+        *waiting += 1;
+        return;
+    }
+    put(readers, owner, 1);
 }
 
 // How many wait for the owner, by these counts.
 fn count_in(readers: &HashMap<u64, u64>, owner: u64) -> u64
     ensures { result ≡ unwrap_or (get nat_eq readers.now owner) 0 }
 {
-    readers.get(&owner).copied().unwrap_or(0)
+    at(readers, owner).copied().unwrap_or(0)
 }
 
 // An equal settlement.

@@ -1,7 +1,7 @@
 //! Hash maps and sets of numbers: writes that take no memory, and looks that cost little where there
 //! is nothing.
 
-ghost use Rattle.std.specs.Prelude.{◌≡◌, ℕ, ◌+◌, ◌≤◌, ◌<◌, ◌==◌, false, cond, Some, IsSome, is_some, nat_eq, option_copied, ◌||◌, if◌then◌else◌};
+ghost use Rattle.std.specs.Prelude.{◌≡◌, ℕ, ◌+◌, ◌≤◌, ◌<◌, ◌==◌, false, cond, Some, None, IsSome, is_some, nat_eq, option_copied, ◌||◌, if◌then◌else◌};
 ghost use Rattle.std.specs.Bool.{OnFalse};
 ghost use Rattle.std.specs.HashSet as hash_set;
 ghost use Rattle.std.specs.HashMap.{get, spare, hash_map_len, PutsEntry, Updates};
@@ -67,18 +67,44 @@ pub(crate) fn at<T>(map: &HashMap<u64, T>, number: u64) -> Option<&T>
     map.get(&number)
 }
 
+/// Whether something stands at the number. Nothing is hashed where the map is empty.
+#[inline(always)]
+pub(crate) fn has_at<T>(map: &HashMap<u64, T>, number: u64) -> bool
+    ensures { result ≡ is_some (get nat_eq map.now number) }
+{
+    if map.is_empty() {
+        return false;
+    }
+    map.contains_key(&number)
+}
+
+/// Takes out the value at the number, if it has one, and gives it. Nothing is hashed where the map
+/// is empty.
+#[inline(always)]
+pub(crate) fn remove_at<T: Drop>(map: &mut HashMap<u64, T>, number: u64) -> Option<T>
+    ensures value { result ≡ get nat_eq map.old number }
+    ensures updates { (n : ℕ) →
+        get nat_eq map.new n ≡ cond (number == n) None (get nat_eq map.old n) }
+    ensures spare { spare map.old ≤ spare map.new }
+    ensures len { hash_map_len map.new + (if is_some (get nat_eq map.old number) then 1 else 0)
+        ≡ hash_map_len map.old }
+{
+    if map.is_empty() {
+        return None;
+    }
+    map.remove(&number)
+}
+
 /// Takes out the value at the number, if it has one. Nothing is hashed where the map is empty.
 #[inline(always)]
 pub(crate) fn take_at<T: Drop>(map: &mut HashMap<u64, T>, number: u64)
     ensures updates { (n : ℕ) →
         get nat_eq map.new n ≡ cond (number == n) None (get nat_eq map.old n) }
+    ensures spare { spare map.old ≤ spare map.new }
     ensures len { hash_map_len map.new + (if is_some (get nat_eq map.old number) then 1 else 0)
         ≡ hash_map_len map.old }
 {
-    if map.is_empty() {
-        return;
-    }
-    drop(map.remove(&number));
+    drop(remove_at(map, number));
 }
 
 /// Takes the number out of the set, and tells whether it was there. Nothing is hashed where the set

@@ -1,6 +1,6 @@
 //! The calls that wait for what another call has or brings.
 
-ghost use Rattle.std.specs.Prelude.{◌≡◌, ◌++◌, ◌||◌, false, cond, ◌==◌, [], ℕ};
+ghost use Rattle.std.specs.Prelude.{◌≡◌, ◌++◌, ◌||◌, ◌&&◌, false, not, cond, ◌==◌, [], ℕ};
 ghost use Rattle.moka_sync.specs.Waiting.{without};
 ghost use Rattle.moka_desk.specs.Lines.{line_at};
 ghost use Rattle.moka_desk.specs.Woken.{all_but, and_calls, is_out};
@@ -38,17 +38,18 @@ impl Waits {
     }
 
     /// A call leaves: it waits for nothing any more; those that wait for how it settles its load,
-    /// and then those that wait for its lock, are handed out.
-    pub(crate) fn leave(&mut self, call: u64) -> CallList
+    /// and then those that wait for its lock, are handed out. The latter go on waiting where the
+    /// call's notice `runs`, which keeps that lock.
+    pub(crate) fn leave(&mut self, call: u64, runs: bool) -> CallList
         ensures woken { result ≡ without call (line_at self.old.settlements.lists call)
-            ++ without call (line_at self.old.locks.lists call) }
+            ++ without call (cond runs [] (line_at self.old.locks.lists call)) }
         // who waits
         ensures turns { (n : ℕ) → line_at self.new.turns.lists n
             ≡ without call (line_at self.old.turns.lists n) }
         ensures settlements { (n : ℕ) → line_at self.new.settlements.lists n
             ≡ cond (call == n) [] (without call (line_at self.old.settlements.lists n)) }
         ensures locks { (n : ℕ) → line_at self.new.locks.lists n
-            ≡ cond (call == n) [] (without call (line_at self.old.locks.lists n)) }
+            ≡ cond (not runs && call == n) [] (without call (line_at self.old.locks.lists n)) }
         ensures notices { (n : ℕ) → line_at self.new.notices.lists n
             ≡ without call (line_at self.old.notices.lists n) }
         // who is woken
@@ -57,7 +58,8 @@ impl Waits {
         ensures settlements_woken { (c : ℕ) → is_out self.new.settlements c ≡ all_but call
             (and_calls (line_at self.old.settlements.lists call) (is_out self.old.settlements)) c }
         ensures locks_woken { (c : ℕ) → is_out self.new.locks c ≡ all_but call
-            (and_calls (line_at self.old.locks.lists call) (is_out self.old.locks)) c }
+            (and_calls (cond runs [] (line_at self.old.locks.lists call))
+            (is_out self.old.locks)) c }
         ensures notices_woken { (c : ℕ) → is_out self.new.notices c
             ≡ all_but call (is_out self.old.notices) c }
     {
@@ -66,7 +68,7 @@ impl Waits {
         self.locks.leave(call);
         self.notices.leave(call);
         let load = self.settlements.take(call);
-        let lock = self.locks.take(call);
+        let lock = self.locks.take_if(call, !runs);
         hand_both(self.locks.alloc, load, lock)
     }
 

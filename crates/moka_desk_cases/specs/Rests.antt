@@ -1,5 +1,5 @@
 -- A desk between the visits of these tests.
-use Rattle.std.specs.Prelude.{ℕ, false, List, [], Option, None, nat_eq}
+use Rattle.std.specs.Prelude.{◌≡◌, ℕ, false, List, [], Option, Some, None, IsNone, nat_eq}
 use Rattle.std.specs.declared.cmp.PartialEq as PartialEq
 use Rattle.std.specs.declared.hash.Hash as Hash
 use Rattle.std.specs.declared.hash.Hasher as Hasher
@@ -60,3 +60,12 @@ abbrev pub HasTurn : {S H : Type 0} {same : PartialEq.Ghosts ℕ} {hash : Hash.G
     Desk ℕ ℕ ℕ S H same hash build hasher →
     Option ℕ → Type 0
 HasTurn desk call = (w : DeskPart ℕ ℕ ℕ) × StandsFor nat_eq desk (record w { turn = call })
+
+-- the desk stands for a state where the lock of the key 5 is held under the number 1, and none under
+-- the number 2
+abbrev pub LockIsFirsts : {S H : Type 0} {same : PartialEq.Ghosts ℕ} {hash : Hash.Ghosts ℕ}
+    {build : BuildHasher.Ghosts S H} {hasher : Hasher.Ghosts H} →
+    Desk ℕ ℕ ℕ S H same hash build hasher → Type 0
+LockIsFirsts desk =
+    (w : DeskPart ℕ ℕ ℕ) × StandsFor nat_eq desk w
+    × (w.locks 5 ≡ Some 1) × IsNone (w.locked 2) × IsNone (w.kept 2)

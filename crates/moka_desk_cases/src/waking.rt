@@ -3,11 +3,11 @@
 ghost use Rattle.std.specs.Prelude.{nat_eq, Some, None, OnOk};
 ghost use Rattle.moka_hist.specs.declared.visits.Visit.TheVariants as visit;
 ghost use Rattle.moka_desk.specs.StandsFor.{Can};
-ghost use Rattle.moka_desk_cases.specs.Rests.{HasTurn, IsNew, NobodyHolds};
+ghost use Rattle.moka_desk_cases.specs.Rests.{HasTurn, IsNew, LockIsFirsts, NobodyHolds};
 
 use crate::desks::{new_desk, rules_with};
 use moka_desk::Desk;
-use moka_hist::{Kind, Load, Takes, Told};
+use moka_hist::{Kind, Load, LockTaken, Takes, Told};
 use std::alloc::AllocError;
 use std::process::Abort;
 use std::test::Fail;
@@ -164,4 +164,50 @@ fn a_call_that_leaves_wakes_others_and_is_woken_no_more(rt: HostRuntime) -> Resu
     let left = leave_all(&rt, &mut desk);
     drop(desk);
     left
+}
+
+/// Call 1 locks the key 5, tells the listener of a record, and is dropped while that hears.
+fn drop_while_told(desk: &mut Desk<u32, u32, u32>) -> Result<(), AllocError>
+    requires { IsNew desk.old }
+    ensures { OnOk result (LockIsFirsts desk.new) }
+{
+    let _ = desk.lock_key(1, &5)?;
+    let _ = desk.open_notice(1, 5, 50, 0, 0, None, true)?;
+    let _ = desk.leave(1, None);
+    Ok(())
+}
+
+/// How call 2 finds the lock of the key 5, which is held under the number 1; whether it is woken as
+/// the notice of that number ends; and how it finds the lock then.
+fn found_and_woken(
+    desk: &mut Desk<u32, u32, u32>,
+) -> Result<(LockTaken, bool, LockTaken), AllocError>
+    requires { LockIsFirsts desk.old }
+{
+    let kept = desk.lock_key(2, &5)?;
+    let told = desk.tell(1, Told::Done).is_some();
+    let woken = desk.is_woken(2);
+    let taken = desk.lock_key(2, &5)?;
+    Ok((kept, told && woken, taken))
+}
+
+/// How call 2 finds the lock of the key 5 once call 1 was dropped while the listener hears; whether
+/// it is woken as the notice ends; and how it finds the lock then.
+fn found_kept(desk: &mut Desk<u32, u32, u32>) -> Result<(LockTaken, bool, LockTaken), AllocError>
+    requires { IsNew desk.old }
+{
+    drop_while_told(desk)?;
+    found_and_woken(desk)
+}
+
+#[test]
+fn a_call_is_woken_for_a_lock_that_a_notice_kept(rt: HostRuntime) -> Result<(), Fail> {
+    let mut desk = new_desk(rt.alloc(), rules_with(None))?;
+    let found = found_kept(&mut desk);
+    drop(desk);
+    let (kept, woken, taken) = found?;
+    assert!(rt; kept == LockTaken::Kept { notice: 1 });
+    assert!(rt; woken);
+    assert!(rt; taken == LockTaken::Taken);
+    Ok(())
 }

@@ -8,7 +8,7 @@ ghost use Rattle.moka_desk_cases.specs.Rests.{IsNew, RestsOnDesk};
 
 use crate::desks::{new_desk, rules_with};
 use moka_desk::Desk;
-use moka_hist::Write;
+use moka_hist::{LockTaken, Write};
 use std::alloc::{AllocError, Global};
 use std::process::Abort;
 use std::test::Fail;
@@ -58,7 +58,7 @@ fn a_key_is_locked(rt: HostRuntime) -> Result<(), Fail> {
     let mut desk = new_desk(rt.alloc(), rules_with(None))?;
     let locked = desk.lock_key(1, &5);
     drop(desk);
-    assert!(rt; locked?);
+    assert!(rt; locked? == LockTaken::Taken);
     Ok(())
 }
 

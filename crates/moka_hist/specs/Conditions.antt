@@ -73,14 +73,14 @@ module _ {K V E : Type 0} where
   HasUnsettled w load = (owner : ℕ) → w.owners load ≡ Some owner → IsNone (w.settled owner)
 
   -- The desk allows the visit. A call holds one write at a time, and owns or awaits one load at a
-  -- time; it settles what it owns, posts what it holds, frees the lock that it holds, opens one
-  -- notice, and applies the log while it has the turn. Places that it gives back are those of no
-  -- write that it took up.
+  -- time; it takes no lock beside one that it holds or its notice keeps; it settles what it owns,
+  -- posts what it holds, frees the lock that it holds, opens one notice, and applies the log while
+  -- it has the turn. Places that it gives back are those of no write that it took up.
   abbrev pub MayVisit : DeskPart K V E → Visit K V E → Type 0
   MayVisit w (visit.Clock call) = HoldsNoWrite w call
   MayVisit w (visit.TakeOwed call) = IsNone (w.holding call)
   MayVisit w (visit.NoticeEnded call number) = Unit {0}
-  MayVisit w (visit.LockKey call key) = IsNone (w.locked call)
+  MayVisit w (visit.LockKey call key) = IsNone (w.locked call) × IsNone (w.kept call)
   MayVisit w (visit.UnlockKey call wrote) =
       IsSome (w.locked call) × (wrote ≡ false → HoldsNoWrite w call)
   MayVisit w (visit.OpenNotice call key value stamp modified cause upsert) = IsNone (w.notices call)

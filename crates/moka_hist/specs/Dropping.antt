@@ -4,7 +4,7 @@ use Rattle.std.specs.Option.{option_to_list, option_map}
 use Rattle.moka_hist.specs.Finite.{put_at}
 use Rattle.moka_hist.specs.State.{Call, DeskPart, State}
 use Rattle.moka_hist.specs.Plan.{held_by}
-use Rattle.moka_hist.specs.Visits.{is_running, number_of, locks_without, owners_without, settled_without, settled_with, readers_without}
+use Rattle.moka_hist.specs.Visits.{is_running, key_under, number_of, locks_without, owners_without, settled_without, settled_with, readers_without}
 use Rattle.moka_hist.specs.declared.writes.Owed.{Owed}
 use Rattle.moka_hist.specs.declared.writes.Write.{Write}
 use Rattle.moka_hist.specs.declared.visits.Settled.TheVariants as settled
@@ -19,8 +19,8 @@ module _ {K V E : Type 0} where
   owed_with w write = record { write = write; notice = running_of w write }
 
   -- The call leaves the desk: its ask is closed; those that wait for it read that it was dropped;
-  -- it waits for nobody; its lock is free; and a write that it held is owed from then on. A
-  -- listener that was asked is still asked.
+  -- it waits for nobody; its lock is kept by its own notice where that still runs, and else it is
+  -- free; and a write that it held is owed from then on. A listener that was asked is still asked.
   abbrev pub left : DeskPart K V E → ℕ → Option Write → DeskPart K V E
   left w call held = record w {
     holding = put_at w.holding call None;
@@ -30,8 +30,9 @@ module _ {K V E : Type 0} where
     joined = put_at w.joined call None;
     readers = readers_without w call;
     settled = settled_with w call settled.Aborted (settled_without w call);
-    locks = locks_without w call;
+    locks = cond (is_running w call) w.locks (locks_without w call);
     locked = put_at w.locked call None;
+    kept = put_at w.kept call (cond (is_running w call) (key_under w call) None);
     asks = put_at w.asks call None;
     told = put_at w.told call None;
   }

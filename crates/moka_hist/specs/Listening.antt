@@ -8,12 +8,14 @@ use Rattle.moka_hist.specs.declared.records.Stored.{Stored}
 use Rattle.moka_hist.specs.declared.replies.Ask.TheVariants as ask
 use Rattle.moka_hist.specs.declared.visits.Found.{Found}
 use Rattle.moka_hist.specs.declared.visits.Found.TheVariants as found
+use Rattle.moka_hist.specs.declared.visits.LockTaken.TheVariants as taken
 
 module _ {K V E : Type 0} where
-  -- the lock is waited for while another call holds it
+  -- the lock is waited for while another call holds it, or the notice of one keeps it
   abbrev pub after_lock : Call K V E → List (Item K V E) → Found V E → Next K V E
-  after_lock c rest (found.LockKey true) = goes c rest
-  after_lock c rest (found.LockKey false) = waits c
+  after_lock c rest (found.LockKey taken.Taken) = goes c rest
+  after_lock c rest (found.LockKey taken.Held) = waits c
+  after_lock c rest (found.LockKey (taken.Kept notice)) = waits c
   after_lock c rest _ = waits c
 
   abbrev pub after_unlock : Call K V E → List (Item K V E) → Found V E → Next K V E

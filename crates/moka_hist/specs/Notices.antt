@@ -89,19 +89,34 @@ module _ {K V E : Type 0} where
     pub live : s.calls n ≡ Some call
     pub under : IsUnderLock call.plan
 
+  -- The notice of this number runs, and its call is gone. A call that answers has heard its own
+  -- notice to its end, so this one was dropped before, between its locking and its freeing.
+  pub record KeepsLock (s : State K V E) (n : ℕ) : Type 0 where
+    pub gone : IsNone (s.calls n)
+    pub runs : is_running s.world.desk n ≡ true
+
   -- where a listener is set, a call holds a lock exactly where it is live and between its locking
-  -- and its freeing; without one nobody does
+  -- and its freeing; without one nobody does; and a number keeps one exactly where its call was
+  -- dropped there while its notice ran, and that still does
   pub record LocksAreHeld (s : State K V E) : Type 0 where
     pub held : (n : ℕ) → s.world.desk.rules.listener ≡ true →
         IsSome (s.world.desk.locked n) ↔ HoldsLock s n
     pub none : (n : ℕ) → IsSome (s.world.desk.locked n) → s.world.desk.rules.listener ≡ true
+    pub kept : (n : ℕ) → IsSome (s.world.desk.kept n) ↔ KeepsLock s n
 
-  -- Of two notices of one key that which was opened first was committed first; and where both still
-  -- run the call of the first was dropped.
+  -- Of two notices of one key that which was opened first was committed first, and it runs no more:
+  -- it had ended, or was skipped, when the second was opened.
   pub record NoticesAreInOrder (eq : K → K → Bool) (s : State K V E) : Type 0 where
     pub order : (a b : ℕ) (x y : Notice K V) → IsBefore s.world.desk.opened a b →
         s.world.desk.notices a ≡ Some x → s.world.desk.notices b ≡ Some y → eq x.key y.key ≡ true →
         IsBefore s.world.table.committed a b
-    pub beside : (a b : ℕ) (x y : Notice K V) → IsBefore s.world.desk.opened a b →
+    pub over : (a b : ℕ) (x y : Notice K V) → IsBefore s.world.desk.opened a b →
         s.world.desk.notices a ≡ Some x → s.world.desk.notices b ≡ Some y → eq x.key y.key ≡ true →
-        is_running s.world.desk a ≡ true → is_running s.world.desk b ≡ true → IsNone (s.calls a)
+        is_running s.world.desk a ≢ true
+
+  -- no two notices of equal keys run
+  abbrev pub NoticesAreApart : (K → K → Bool) → State K V E → Type 0
+  NoticesAreApart eq s =
+      (a b : ℕ) (x y : Notice K V) → s.world.desk.notices a ≡ Some x →
+      s.world.desk.notices b ≡ Some y → eq x.key y.key ≡ true →
+      is_running s.world.desk a ≡ true → is_running s.world.desk b ≡ true → a ≡ b

@@ -269,6 +269,11 @@ held_by (Strike there found ∷ rest) = held_by rest
 held_by (Retire ∷ rest) = held_by rest
 held_by (Reply answer ∷ rest) = held_by rest
 
+-- the key whose lock the plan takes next
+abbrev pub locking : {K V E : Type 0} → List (Item K V E) → Option K
+locking (Lock key ∷ rest) = Some key
+locking _ = None
+
 -- the notice that the call of this number is hearing: its own, or that of an owed write
 abbrev pub hearing : {K V E : Type 0} → ℕ → List (Item K V E) → Option ℕ
 hearing n [] = None

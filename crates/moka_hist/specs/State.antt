@@ -85,9 +85,11 @@ pub record DeskPart (K V E : Type 0) : Type 0 where
   pub readers : ℕ → ℕ
   -- how an owner ended, as long as somebody has still to read it
   pub settled : ℕ → Option (Settled V E)
-  -- the call that holds a key's lock, and the key whose lock a call holds
+  -- the number under which a key's lock is held; the key whose lock a live call holds; and the key
+  -- whose lock the running notice of this dropped call keeps
   pub locks : K → Option ℕ
   pub locked : ℕ → Option K
+  pub kept : ℕ → Option K
   -- the notices that were opened, and their numbers, oldest first
   pub notices : ℕ → Option (Notice K V)
   pub opened : List ℕ
@@ -162,6 +164,7 @@ fresh_desk K V E rules size handed =
       settled = λ _. None;
       locks = λ _. None;
       locked = λ _. None;
+      kept = λ _. None;
       notices = λ _. None;
       opened = [];
       off = false;

@@ -1,9 +1,9 @@
 -- Telling an answer to an open ask.
-use Rattle.std.specs.Prelude.{◌≡◌, ℕ, Bool, ◌||◌, true, false, Option, Some, None, IsSomeAnd}
+use Rattle.std.specs.Prelude.{◌≡◌, ℕ, Bool, ◌||◌, true, false, cond, Option, Some, None, IsSomeAnd}
 use Rattle.std.specs.Option.{option_map, option_map_or}
 use Rattle.moka_hist.specs.Finite.{put_at}
 use Rattle.moka_hist.specs.State.{DeskPart}
-use Rattle.moka_hist.specs.Visits.{is_running}
+use Rattle.moka_hist.specs.Visits.{is_keeping, is_running, locks_without}
 use Rattle.moka_hist.specs.declared.notices.Notice.{Notice}
 use Rattle.moka_hist.specs.declared.notices.NoticeState.{NoticeState}
 use Rattle.moka_hist.specs.declared.notices.NoticeState.TheVariants as notice
@@ -82,10 +82,13 @@ module _ {K V E : Type 0} where
   is_asked w number answer.Done = is_running w number
   is_asked w number answer.Off = is_running w number
 
-  -- the listener has answered: the notice of this number has ended
+  -- the listener has answered: the notice of this number has ended, and a lock that it kept is
+  -- free; that of a live call is not
   abbrev pub ended : DeskPart K V E → ℕ → DeskPart K V E
   ended w number = record w {
     notices = put_at w.notices number (option_map with_end (w.notices number));
+    locks = cond (is_keeping w number) (locks_without w number) w.locks;
+    kept = put_at w.kept number None;
   }
 
   -- the listener has answered, and hears of no further record, if `off`

@@ -1,6 +1,6 @@
 -- The visits of the desk: what each finds, and what it changes.
 use Rattle.std.specs.Prelude.{ℕ, zero, suc, ◌+◌, ◌-◌, ◌==◌, nat_lt, nat_le, max, Bool, true, false, not, cond, ◌&&◌, ◌||◌, List, [], ◌∷◌, ◌++◌, length, take, drop, filter, map, Option, Some, None, is_some, unwrap_or, Result, Ok, Err}
-use Rattle.std.specs.Option.{option_map, option_map_or, option_and_then}
+use Rattle.std.specs.Option.{option_map, option_map_or, option_and_then, option_or}
 use Rattle.std.specs.List.{list_any, count_by}
 use Rattle.moka_hist.specs.Finite.{put_at, put_key, load_eq}
 use Rattle.moka_hist.specs.State.{DeskPart}
@@ -24,6 +24,8 @@ use Rattle.moka_hist.specs.declared.writes.Write.{Write}
 use Rattle.moka_hist.specs.declared.writes.Write.TheVariants.{Upsert, Remove}
 use Rattle.moka_hist.specs.declared.visits.Claim.{Claim}
 use Rattle.moka_hist.specs.declared.visits.Claim.TheVariants as claim
+use Rattle.moka_hist.specs.declared.visits.LockTaken.{LockTaken}
+use Rattle.moka_hist.specs.declared.visits.LockTaken.TheVariants as taken
 use Rattle.moka_hist.specs.declared.visits.Settled.{Settled}
 use Rattle.moka_hist.specs.declared.visits.Settled.TheVariants as settled
 use Rattle.moka_hist.specs.declared.visits.Takes.{Takes}
@@ -126,9 +128,31 @@ module _ {K V E : Type 0} where
   abbrev pub pending_of : DeskPart K V E → ℕ → Option ℕ
   pending_of w call = option_and_then moment_of (w.holding call)
 
-  -- nobody holds the key's lock, or this call holds it
+  -- the key's lock is held under no other number than this call's
   abbrev pub is_unlocked_for : DeskPart K V E → ℕ → K → Bool
   is_unlocked_for w call key = option_map_or (λ holder. holder == call) (w.locks key) true
+
+  -- the key whose lock is held under the number: by its live call, or by its running notice
+  abbrev pub key_under : DeskPart K V E → ℕ → Option K
+  key_under w number = option_or (w.locked number) (w.kept number)
+
+  -- the notice of this number keeps a lock, since its call was dropped
+  abbrev pub is_keeping : DeskPart K V E → ℕ → Bool
+  is_keeping w number = is_some (w.kept number)
+
+  -- the notice that keeps the key's lock, if one does
+  abbrev pub keeper : DeskPart K V E → K → Option ℕ
+  keeper w key =
+      option_and_then (λ holder. cond (is_keeping w holder) (Some holder) None) (w.locks key)
+
+  -- how the call finds a lock that is held under this number
+  abbrev pub taken_under : DeskPart K V E → ℕ → ℕ → LockTaken
+  taken_under w call holder =
+      cond (holder == call) taken.Taken (cond (is_keeping w holder) (taken.Kept holder) taken.Held)
+
+  -- how the call finds the key's lock: it takes one that is free
+  abbrev pub lock_taken : DeskPart K V E → ℕ → K → LockTaken
+  lock_taken w call key = option_map_or (taken_under w call) (w.locks key) taken.Taken
 
   -- the call has taken a moment at or before this one, for a write that isn't decided yet
   abbrev pub is_pending_by : DeskPart K V E → ℕ → ℕ → Bool
@@ -141,7 +165,7 @@ module _ {K V E : Type 0} where
   some_pending_by w moment (suc call) =
       is_pending_by w moment (suc call) || some_pending_by w moment call
 
-  -- the keys that are locked but for that whose lock the call holds
+  -- the keys that are locked but for that whose lock is held under this number
   abbrev pub locks_without : DeskPart K V E → ℕ → K → Option ℕ
   locks_without w call key =
       cond (option_map_or (λ h. h == call) (w.locks key) false) None (w.locks key)
@@ -414,7 +438,7 @@ module _ {K V E : Type 0} where
   finds w (visit.Clock call) = found.Clock w.clock
   finds w (visit.TakeOwed call) = found.TakeOwed (first_of w.owed)
   finds w (visit.NoticeEnded call number) = found.NoticeEnded (not (is_running w number))
-  finds w (visit.LockKey call key) = found.LockKey (is_unlocked_for w call key)
+  finds w (visit.LockKey call key) = found.LockKey (lock_taken w call key)
   finds w (visit.UnlockKey call wrote) = found.UnlockKey
   finds w (visit.OpenNotice call key value stamp modified cause upsert) =
       found.OpenNotice (cond w.off None (Some (cause_of w stamp modified cause upsert)))

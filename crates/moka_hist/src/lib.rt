@@ -43,5 +43,5 @@ pub use replies::{Answer, Ask, Refusal, Reply};
 pub use rules::{Cause, Rules, Times, later};
 pub use settings::Settings;
 pub use tables::{TableAnswer, TableOp, TableTurn};
-pub use visits::{Claim, Found, Settled, Takes, Visit};
+pub use visits::{Claim, Found, LockTaken, Settled, Takes, Visit};
 pub use writes::{Holding, Owed, Place, Write};

@@ -35,6 +35,15 @@ pub enum Takes {
     TryOp,
 }
 
+/// How a call finds a key's lock: it has taken it, another live call holds it, or the notice of
+/// this number keeps it, which still runs though its call was dropped.
+#[derive(Clone, Copy, PartialEq, Eq, Debug)]
+pub enum LockTaken {
+    Taken,
+    Held,
+    Kept { notice: u64 },
+}
+
 /// A visit of the desk, with the number of the call that makes it.
 #[derive(Drop)]
 pub enum Visit<K, V, E> {
@@ -51,7 +60,7 @@ pub enum Visit<K, V, E> {
         call: u64,
         notice: u64,
     },
-    /// Takes the key's lock, where no other call holds it.
+    /// Takes the key's lock, where no other call holds it and no notice keeps it.
     LockKey {
         call: u64,
         key: K,
@@ -169,7 +178,7 @@ pub enum Found<V, E> {
     Clock(u64),
     TakeOwed(Option<Owed>),
     NoticeEnded(bool),
-    LockKey(bool),
+    LockKey(LockTaken),
     UnlockKey,
     StampMoment(u64),
     Judge(bool),

@@ -35,6 +35,7 @@ use Rattle.moka_hist.specs.declared.tables.TableTurn.TheVariants as table
 use Rattle.moka_hist.specs.declared.visits.Claim.TheVariants as claim
 use Rattle.moka_hist.specs.declared.visits.Found.{Found}
 use Rattle.moka_hist.specs.declared.visits.Found.TheVariants as found
+use Rattle.moka_hist.specs.declared.visits.LockTaken.TheVariants as taken
 use Rattle.moka_hist.specs.declared.visits.Settled.TheVariants as settled
 use Rattle.moka_hist.specs.declared.writes.Write.{Write}
 use Rattle.moka_bound.specs.Falling.{raised}
@@ -200,8 +201,9 @@ module _ {K V E : Type 0} where
       settle_few _ = was
 
       lock_few : (f : Found V E) → Few b (after_lock c rest f)
-      lock_few (found.LockKey true) = goes_few b c rest less
-      lock_few (found.LockKey false) = was
+      lock_few (found.LockKey taken.Taken) = goes_few b c rest less
+      lock_few (found.LockKey taken.Held) = was
+      lock_few (found.LockKey (taken.Kept notice)) = was
       lock_few _ = was
 
       unlock_few : (f : Found V E) → Few b (after_unlock c rest f)

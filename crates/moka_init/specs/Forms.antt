@@ -8,6 +8,7 @@ use Rattle.moka_hist.specs.declared.events.Told.{Told}
 use Rattle.moka_hist.specs.declared.visits.Claim.{Claim}
 use Rattle.moka_hist.specs.declared.visits.Found.{Found}
 use Rattle.moka_hist.specs.declared.visits.Found.TheVariants as found
+use Rattle.moka_hist.specs.declared.visits.LockTaken.{LockTaken}
 use Rattle.moka_hist.specs.declared.visits.Settled.{Settled}
 use Rattle.moka_hist.specs.declared.visits.Visit.{Visit}
 use Rattle.moka_hist.specs.declared.visits.Visit.TheVariants as visit
@@ -21,7 +22,7 @@ module _ {K V E : Type 0} where
   IsFoundBy (visit.Clock n) f = (moment : ℕ) × (f ≡ found.Clock moment)
   IsFoundBy (visit.TakeOwed n) f = (owed : Option Owed) × (f ≡ found.TakeOwed owed)
   IsFoundBy (visit.NoticeEnded n number) f = (ended : Bool) × (f ≡ found.NoticeEnded ended)
-  IsFoundBy (visit.LockKey n key) f = (locked : Bool) × (f ≡ found.LockKey locked)
+  IsFoundBy (visit.LockKey n key) f = (taken : LockTaken) × (f ≡ found.LockKey taken)
   IsFoundBy (visit.UnlockKey n wrote) f = f ≡ found.UnlockKey
   IsFoundBy (visit.OpenNotice n key value stamp modified handed upsert) f =
       (cause : Option Cause) × (f ≡ found.OpenNotice cause)

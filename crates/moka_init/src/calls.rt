@@ -2,14 +2,14 @@
 ghost use Rattle.std.specs.Prelude.{◌≡◌, Some, None, false, IfOk, MatchOption};
 ghost use Rattle.moka_hist.specs.Step.{access_for, On_desk, replace_of};
 ghost use Rattle.moka_hist.specs.Plan as plan;
-ghost use Rattle.moka_hist.specs.Plan.{hearing, held_by};
+ghost use Rattle.moka_hist.specs.Plan.{hearing, held_by, locking};
 ghost use Rattle.std.specs.Option.{option_map};
 ghost use Rattle.moka_needs.specs.Reads.{kind_read};
 ghost use Rattle.moka_init.specs.PointPlan.{aim_of, listening_plan};
 ghost use Rattle.moka_init.specs.FlowPlan.{carries_in, opening, retires_in, takes_told};
 ghost use Rattle.moka_init.specs.FlowPlan.{tested_in};
 
-use crate::copies::replace_of;
+use crate::copies::{key_locked, replace_of};
 use crate::flow::Flow;
 use crate::points::{
     Computing, Listening, Loading, Look, Looking, Maintenance, Point, PostStep, Posting, Removing,
@@ -72,6 +72,16 @@ impl<K, V, E> Flow<K, V, E> {
                 },
             ) => Some(self.call),
             Point::Listening(Listening::Ended { notice, .. }) => Some(*notice),
+            _ => None,
+        }
+    }
+
+    /// The key whose lock the call's next visit takes, where it takes one.
+    pub fn locking(&self) -> Option<&K>
+        ensures { option_map (λ key. key.now) result ≡ locking (call_of self.now).plan }
+    {
+        match &self.point {
+            Point::Listening(Listening::Lock(locked)) => Some(key_locked(locked)),
             _ => None,
         }
     }

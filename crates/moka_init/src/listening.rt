@@ -13,7 +13,7 @@ use crate::flow::Flow;
 use crate::points::{
     Drained, Listening, Locked, Point, PostStep, Posted, Posting, Removing, TakeOut, Writing,
 };
-use moka_hist::{Ask, Cause, Found, Got, Stored, Turn, Visit, Write};
+use moka_hist::{Ask, Cause, Found, Got, LockTaken, Stored, Turn, Visit, Write};
 
 impl<K: Drop, V: Drop, E: Drop> Flow<K, V, E> {
     pub(crate) fn after_listening(
@@ -83,13 +83,26 @@ impl<K: Drop, V: Drop, E: Drop> Flow<K, V, E> {
             (locked_rest locked) found) result self.new }
     {
         match found {
-            Found::LockKey(true) => self.goes_locked(locked),
-            Found::LockKey(false) => self.waits(Point::Listening(Listening::Lock(locked))),
+            Found::LockKey(taken) => self.goes_or_waits(taken, locked),
             _ => unreachable!(),
         }
     }
 
-    // The key's lock is held.
+    // The call goes on where it has taken the key's lock, and else waits for it.
+    fn goes_or_waits(&mut self, taken: LockTaken, locked: Locked<K, V>) -> Turn<K, V, E>
+        ensures { GoesOn self.old
+            (after_lock
+            (standing self.old (plan.Lock (key_locked locked) ∷ locked_rest locked))
+            (locked_rest locked) (Found.LockKey taken)) result self.new }
+    {
+        match taken {
+            LockTaken::Taken => self.goes_locked(locked),
+            LockTaken::Held => self.waits(Point::Listening(Listening::Lock(locked))),
+            LockTaken::Kept { .. } => self.waits(Point::Listening(Listening::Lock(locked))),
+        }
+    }
+
+    // The call has taken the key's lock.
     fn goes_locked(&mut self, locked: Locked<K, V>) -> Turn<K, V, E>
         ensures { GoesOn self.old (mid self.old (locked_rest locked)) result self.new }
     {

@@ -84,6 +84,8 @@ module _ {K V E S H : Type 0} {same : PartialEq.Ghosts K} {hash : Hash.Ghosts K}
         one_locker = sound.one_locker;
         locks = sound.locks;
         locked = sound.locked;
+        keeps = sound.keeps;
+        apart = sound.apart;
         one_id = sound.one_id;
       }) refl refl (omega arith)
 

@@ -4,3 +4,4 @@ pub mod Wanting
 pub mod Keeping
 pub mod Stopping
 pub mod Looks
+pub mod Finding

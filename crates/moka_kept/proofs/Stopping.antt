@@ -1,5 +1,5 @@
 -- How steps of a flow, one after another, leave its call.
-use Rattle.std.proofs.Common.{◌≡◌, inl, Bool, false, Option, Some, None, Result, Ok, Err, IfOk, OnErr, refl, sym, ◌∙◌, subst}
+use Rattle.std.proofs.Common.{◌≡◌, inl, ℕ, Bool, false, Option, Some, None, Result, Ok, Err, IfOk, IfSome, OnErr, refl, sym, ◌∙◌, subst}
 use Rattle.moka_hist.specs.Next.{answers}
 use Rattle.moka_hist.specs.State.{Call}
 use Rattle.moka_hist.specs.declared.accesses.Turn.{Turn}
@@ -12,7 +12,7 @@ use Rattle.moka_init.specs.declared.flow.Flow.{Flow}
 use Rattle.moka_kept.specs.Paths.{CameWith, EndedWith, LeftWith}
 use Rattle.moka_kept.specs.Rests.{Rests}
 use Rattle.moka_kept.specs.Taking.{Taken}
-use Rattle.moka_kept.specs.Stops.{CameTo, GoesOnWith, StopIs, stop_after, stop_of}
+use Rattle.moka_kept.specs.Stops.{CameTo, FindsKept, GoesOnWith, StopIs, stop_after, stop_of}
 use Rattle.moka_kept.specs.declared.parked.ParkedTask.{ParkedTask}
 use Rattle.moka_kept.specs.declared.stop.Stop.{Stop}
 use Rattle.moka_kept.specs.declared.stop.Stop.TheVariants as stop
@@ -46,30 +46,30 @@ module _ {K V E : Type 0} (eq : K → K → Bool) (such : Taken V E → Type 0) 
       subst (λ n. LeftWith eq n (call_of new) t) (sym number) (record { call = end.call; given = end.given; last = end.last; follows = end.follows })
 
   -- a step that is followed by this turn stops its call so
-  pub stops : (old : Flow K V E) (t : Turn K V E) (new : Flow K V E) (task : Option ParkedTask) → new.call ≡ old.call → HasBegun None new → Leaves t new
-      → EndedWith eq such old.call (call_of old) (next_in t new) → StopIs eq such old (stop_of task new.call t) new
-  stops old turn.Going new task number begun live end =
+  pub stops : (old : Flow K V E) (t : Turn K V E) (new : Flow K V E) (task : Option ParkedTask) (kept : Option ℕ) → IfSome kept (FindsKept eq new) → new.call ≡ old.call → HasBegun None new → Leaves t new
+      → EndedWith eq such old.call (call_of old) (next_in t new) → StopIs eq such old (stop_of task kept new.call t) new
+  stops old turn.Going new task kept finds number begun live end =
       (came_by old new turn.Going number begun live end, inl (left_by old new turn.Going number end))
-  stops old turn.Wait new task number begun live end = (came_by old new turn.Wait number begun live end, left_by old new turn.Wait number end)
-  stops old (turn.Ask ask.Init) new task number begun live end =
+  stops old turn.Wait new task kept finds number begun live end = (came_by old new turn.Wait number begun live end, left_by old new turn.Wait number end, finds)
+  stops old (turn.Ask ask.Init) new task kept finds number begun live end =
       (came_by old new (turn.Ask ask.Init) number begun live end, left_by old new (turn.Ask ask.Init) number end)
-  stops old (turn.Ask (ask.Compute found)) new task number begun live end =
+  stops old (turn.Ask (ask.Compute found)) new task kept finds number begun live end =
       (came_by old new (turn.Ask (ask.Compute found)) number begun live end, left_by old new (turn.Ask (ask.Compute found)) number end)
-  stops old (turn.Ask (ask.Listener key value cause)) new task number begun live end =
+  stops old (turn.Ask (ask.Listener key value cause)) new task kept finds number begun live end =
       (came_by old new (turn.Ask (ask.Listener key value cause)) number begun live end, left_by old new (turn.Ask (ask.Listener key value cause)) number end, refl)
-  stops old (turn.Answer answer) new task number begun live end = (end, live)
-  stops old (turn.Item key value) new task number begun live end = came_by old new (turn.Item key value) number begun live end
+  stops old (turn.Answer answer) new task kept finds number begun live end = (end, live)
+  stops old (turn.Item key value) new task kept finds number begun live end = came_by old new (turn.Item key value) number begun live end
 
   -- so does a step that may find no memory
-  pub stops_made : {F : Type 0} (old : Flow K V E) (r : Result (Turn K V E) F) (new : Flow K V E) (task : Option ParkedTask) → Rests old → new.call ≡ old.call → HasBegun None new → IfOk r (λ t. Leaves t new)
-      → IfOk r (λ t. EndedWith eq such old.call (call_of old) (next_in t new)) → OnErr r (StandsStill old new) → StopIs eq such old (stop_after task new.call r) new
-  stops_made old (Ok t) new task rests number begun leaves end still = stops old t new task number begun leaves end
-  stops_made old (Err e) new task rests number begun leaves end still = stays old new rests begun still
+  pub stops_made : {F : Type 0} (old : Flow K V E) (r : Result (Turn K V E) F) (new : Flow K V E) (task : Option ParkedTask) (kept : Option ℕ) → IfSome kept (FindsKept eq new) → Rests old → new.call ≡ old.call → HasBegun None new → IfOk r (λ t. Leaves t new)
+      → IfOk r (λ t. EndedWith eq such old.call (call_of old) (next_in t new)) → OnErr r (StandsStill old new) → StopIs eq such old (stop_after task kept new.call r) new
+  stops_made old (Ok t) new task kept finds rests number begun leaves end still = stops old t new task kept finds number begun leaves end
+  stops_made old (Err e) new task kept finds rests number begun leaves end still = stays old new rests begun still
 
   -- a step that leaves the call going
-  pub left_going : {F : Type 0} (old : Flow K V E) (r : Result (Turn K V E) F) (new : Flow K V E) → r ≡ Ok turn.Going → StopIs eq such old (stop_after None new.call r) new
+  pub left_going : {F : Type 0} (old : Flow K V E) (r : Result (Turn K V E) F) (new : Flow K V E) → r ≡ Ok turn.Going → StopIs eq such old (stop_after None None new.call r) new
       → CameTo eq such old new × GoesOnWith eq new
-  left_going {F} old r new going stops = subst (λ (x : Result (Turn K V E) F). StopIs eq such old (stop_after None new.call x) new) going stops
+  left_going {F} old r new going stops = subst (λ (x : Result (Turn K V E) F). StopIs eq such old (stop_after None None new.call x) new) going stops
 
   -- steps after steps
   pub came_to_on : (a b c : Flow K V E) → CameTo eq such a b → CameTo eq such b c → CameTo eq such a c
@@ -88,7 +88,7 @@ module _ {K V E : Type 0} (eq : K → K → Bool) (such : Taken V E → Type 0) 
   pub stops_on : (a b : Flow K V E) (s : Stop K V E) (c : Flow K V E) → CameTo eq such a b → StopIs eq such b s c → StopIs eq such a s c
   stops_on a b (stop.Answers answer) c before end = (answers_on a b answer before end.0, end.1)
   stops_on a b stop.Going c before after = (came_to_on a b c before after.0, after.1)
-  stops_on a b (stop.Waits task) c before after = (came_to_on a b c before after.0, after.1)
+  stops_on a b (stop.Waits task kept) c before after = (came_to_on a b c before after.0, after.1, after.2)
   stops_on a b (stop.Asks own) c before after = (came_to_on a b c before after.0, after.1)
   stops_on a b (stop.Due due) c before after = (came_to_on a b c before after.0, after.1, after.2)
   stops_on a b stop.Memory c before after = came_to_on a b c before after
@@ -106,7 +106,7 @@ module _ {K V E : Type 0} (eq : K → K → Bool) (such other : Taken V E → Ty
   pub stops_weaker : (old : Flow K V E) (s : Stop K V E) (new : Flow K V E) → StopIs eq such old s new → StopIs eq other old s new
   stops_weaker old (stop.Answers answer) new end = (ended_weaker eq such other weaker old.call (call_of old) (answers answer) end.0, end.1)
   stops_weaker old stop.Going new after = (came_to_weaker old new after.0, after.1)
-  stops_weaker old (stop.Waits task) new after = (came_to_weaker old new after.0, after.1)
+  stops_weaker old (stop.Waits task kept) new after = (came_to_weaker old new after.0, after.1, after.2)
   stops_weaker old (stop.Asks own) new after = (came_to_weaker old new after.0, after.1)
   stops_weaker old (stop.Due due) new after = (came_to_weaker old new after.0, after.1, after.2)
   stops_weaker old stop.Memory new after = came_to_weaker old new after

@@ -1,14 +1,17 @@
 -- How a hold of the lock leaves a call.
-use Rattle.std.specs.Prelude.{◌≡◌, ◌⊎◌, ℕ, Bool, true, Option, None, Result, Ok, Err, is_some}
+use Rattle.std.specs.Prelude.{◌≡◌, ◌⊎◌, ℕ, Bool, true, Option, None, Result, Ok, Err, is_some, IfSome}
 use Rattle.moka_hist.specs.Next.{answers}
 use Rattle.moka_hist.specs.declared.replies.Answer.{Answer}
 use Rattle.moka_hist.specs.declared.replies.Ask.{Ask}
 use Rattle.moka_hist.specs.declared.replies.Ask.TheVariants as ask
+use Rattle.moka_hist.specs.declared.accesses.Got.TheVariants as got
 use Rattle.moka_hist.specs.declared.accesses.Turn.{Turn}
 use Rattle.moka_hist.specs.declared.accesses.Turn.TheVariants as turn
+use Rattle.moka_hist.specs.declared.visits.Found.TheVariants as found
+use Rattle.moka_hist.specs.declared.visits.LockTaken.TheVariants as taken
 use Rattle.moka_init.specs.FlowPlan.{IsOver, call_of, tested_in}
 use Rattle.moka_init.specs.declared.flow.Flow.{Flow}
-use Rattle.moka_kept.specs.Paths.{CameWith, EndedWith, LeftWith}
+use Rattle.moka_kept.specs.Paths.{CameWith, EndedWith, IsGiven, LeftWith}
 use Rattle.moka_kept.specs.Rests.{Rests}
 use Rattle.moka_kept.specs.Taking.{Taken}
 use Rattle.moka_kept.specs.declared.parked.ParkedTask.{ParkedTask}
@@ -30,28 +33,40 @@ module _ {K V E : Type 0} where
   stop_asking n (ask.Listener key value cause) =
       stop.Due (record { notice = n; key = key; value = value; cause = cause })
 
-  -- how the turn of a step stops the call of this number; where it waits this task was parked
-  abbrev pub stop_of : Option ParkedTask → ℕ → Turn K V E → Stop K V E
-  stop_of task n turn.Going = stop.Going
-  stop_of task n turn.Wait = stop.Waits task
-  stop_of task n (turn.Ask ask) = stop_asking n ask
-  stop_of task n (turn.Answer answer) = stop.Answers answer
-  stop_of task n (turn.Item key value) = stop.Memory
+  -- how the turn of a step stops the call of this number; where it waits this task was parked, and
+  -- this notice keeps the lock that is missing, if one does
+  abbrev pub stop_of : Option ParkedTask → Option ℕ → ℕ → Turn K V E → Stop K V E
+  stop_of task kept n turn.Going = stop.Going
+  stop_of task kept n turn.Wait = stop.Waits task kept
+  stop_of task kept n (turn.Ask ask) = stop_asking n ask
+  stop_of task kept n (turn.Answer answer) = stop.Answers answer
+  stop_of task kept n (turn.Item key value) = stop.Memory
 
   -- the same of a step, which finds no memory where it fails
-  abbrev pub stop_after : {F : Type 0} → Option ParkedTask → ℕ → Result (Turn K V E) F → Stop K V E
-  stop_after task n (Ok turn) = stop_of task n turn
-  stop_after task n (Err e) = stop.Memory
+  abbrev pub stop_after : {F : Type 0} → Option ParkedTask → Option ℕ → ℕ → Result (Turn K V E) F →
+      Stop K V E
+  stop_after task kept n (Ok turn) = stop_of task kept n turn
+  stop_after task kept n (Err e) = stop.Memory
 
   -- the call is left waiting
   abbrev pub IsWaiting : Stop K V E → Type 0
-  IsWaiting (stop.Waits task) = Unit {0}
+  IsWaiting (stop.Waits task kept) = Unit {0}
   IsWaiting _ = ⊥
 
   -- the task that was parked, if one was
   abbrev pub task_in : Stop K V E → Option ParkedTask
-  task_in (stop.Waits task) = task
+  task_in (stop.Waits task kept) = task
   task_in _ = None
+
+  -- the notice that keeps the lock which the call waits for, if one does
+  abbrev pub kept_in : Stop K V E → Option ℕ
+  kept_in (stop.Waits task kept) = kept
+  kept_in _ = None
+
+  -- the flow's call is at the lock of a key, which it finds kept by this notice
+  abbrev pub FindsKept : (K → K → Bool) → Flow K V E → ℕ → Type 0
+  FindsKept eq flow notice =
+      IsGiven eq flow.call (call_of flow) (got.Desk (found.LockKey (taken.Kept notice)))
 
   -- The call of the old flow came by accesses to where the new one stands, and rests there. Each
   -- answer of who is asked that it took is such.
@@ -87,7 +102,8 @@ module _ {K V E : Type 0} where
       → Type 0
   StopIs eq such old (stop.Answers answer) new = AnswersFrom eq such old answer × IsOver new
   StopIs eq such old stop.Going new = CameTo eq such old new × GoesOnWith eq new
-  StopIs eq such old (stop.Waits task) new = CameTo eq such old new × Waits eq new
+  StopIs eq such old (stop.Waits task kept) new =
+      CameTo eq such old new × Waits eq new × IfSome kept (FindsKept eq new)
   StopIs eq such old (stop.Asks own) new = CameTo eq such old new × LeftAsking eq new (asked own)
   StopIs eq such old (stop.Due due) new =
       CameTo eq such old new × LeftAsking eq new (ask.Listener due.key due.value due.cause)

@@ -1,7 +1,7 @@
 //! What lies under the lock of a cache.
-ghost use Rattle.std.specs.Prelude.{◌≡◌, ◌<◌, Option, None, IfSome};
+ghost use Rattle.std.specs.Prelude.{◌≡◌, ◌<◌, ℕ, Bool, Option, None, IfSome};
 ghost use Rattle.moka_kept.specs.Kept.{IsKept};
-ghost use Rattle.moka_kept.specs.Stops.{IsWaiting, stop_asking};
+ghost use Rattle.moka_kept.specs.Stops.{FindsKept, IsWaiting, kept_in, stop_asking};
 
 use crate::brought::Brought;
 use crate::due::DueNotice;
@@ -159,9 +159,10 @@ impl<K: Eq + Hash + Exact, V: Exact, E: Exact, S: BuildHasher + Drop> Kept<K, V,
     ) -> Result<Turn<K, V, E>, AllocError>
         requires rests { Rests flow.old }
         requires untested { brought ≡ Brought.Nothing → tested_in (call_of flow.old).plan ≡ None }
-        ensures stops { (task : Option ParkedTask)
+        ensures stops { (task : Option ParkedTask) (kept : Option ℕ)
+            → IfSome kept (FindsKept K.eq flow.new)
             → StopIs K.eq (Brings (tested_in (call_of flow.old).plan) brought)
-            flow.old (stop_after task flow.new.call result) flow.new }
+            flow.old (stop_after task kept flow.new.call result) flow.new }
     {
         match self
             .reach
@@ -181,7 +182,9 @@ impl<K: Eq + Hash + Exact, V: Exact, E: Exact, S: BuildHasher + Drop> Kept<K, V,
         cx: &mut Context<'_>,
         woken: &mut ToWake,
     ) -> Stop<K, V, E>
-        ensures stop { result ≡ stop_after (task_in result) flow.now.call made }
+        ensures stop { result
+            ≡ stop_after (task_in result) (kept_in result) flow.now.call made }
+        ensures finds { IfSome (kept_in result) (FindsKept K.eq flow.now) }
         ensures armed { IsWaiting result → IsArmed cx.new }
         ensures own { IsWaiting result → IsOwn (task_in result) flow.now.call cx.new }
         ensures kept { Keeps cx.old cx.new }
@@ -201,7 +204,8 @@ impl<K: Eq + Hash + Exact, V: Exact, E: Exact, S: BuildHasher + Drop> Kept<K, V,
         cx: &mut Context<'_>,
         woken: &mut ToWake,
     ) -> Stop<K, V, E>
-        ensures stop { result ≡ stop_of (task_in result) flow.now.call turn }
+        ensures stop { result ≡ stop_of (task_in result) (kept_in result) flow.now.call turn }
+        ensures finds { IfSome (kept_in result) (FindsKept K.eq flow.now) }
         ensures armed { IsWaiting result → IsArmed cx.new }
         ensures own { IsWaiting result → IsOwn (task_in result) flow.now.call cx.new }
         ensures kept { Keeps cx.old cx.new }
@@ -224,19 +228,23 @@ impl<K: Eq + Hash + Exact, V: Exact, E: Exact, S: BuildHasher + Drop> Kept<K, V,
     ) -> Stop<K, V, E>
         ensures stop { result ≡ Stop.Answers answer }
         ensures answers { IsWaiting result → ⊥ }
+        ensures finds { IfSome (kept_in result) (FindsKept K.eq flow.now) }
     {
         self.parked.hand_one(flow.number(), woken);
         Stop::Answers(answer)
     }
 
-    // Parks the task of the call.
+    // Parks the task of the call, and tells which notice keeps the lock that it waits for, if one
+    // does.
     fn park(&mut self, flow: &Flow<K, V, E>, cx: &mut Context<'_>) -> Stop<K, V, E>
-        ensures stop { result ≡ Stop.Waits (task_in result) }
+        ensures stop { result ≡ Stop.Waits (task_in result) (kept_in result) }
+        ensures finds { IfSome (kept_in result) (FindsKept K.eq flow.now) }
         ensures armed { IsArmed cx.new }
         ensures own { IsOwn (task_in result) flow.now.call cx.new }
         ensures kept { Keeps cx.old cx.new }
     {
-        Stop::Waits(self.parked.park(flow, cx))
+        let kept = self.reach.keeper(flow);
+        Stop::Waits(self.parked.park(flow, cx), kept)
     }
 
     // Hands out the wakers of the calls that a visit handed out, if it did.
@@ -271,6 +279,7 @@ impl<K: Eq + Hash + Exact, V: Exact, E: Exact, S: BuildHasher + Drop> Kept<K, V,
 fn asking<K: Drop, V: Drop, E>(ask: Ask<K, V>, flow: &Flow<K, V, E>) -> Stop<K, V, E>
     ensures stop { result ≡ stop_asking flow.now.call ask }
     ensures asks { IsWaiting result → ⊥ }
+    ensures finds { (eq : K → K → Bool) → IfSome (kept_in result) (FindsKept eq flow.now) }
 {
     match ask {
         Ask::Init => Stop::Asks(OwnAsk::Init),

@@ -29,7 +29,8 @@ pub trait Listener<K, V>: Drop {
 
     /// Goes on with a notice that was started and has not ended. Where it answers Pending it has
     /// seen to it that the task is polled again. If the call of the notice is dropped, the next
-    /// call that takes its write up goes on with the notice.
+    /// call that takes its write up, or that needs the lock of its key, goes on with the notice:
+    /// so the tasks of several calls may poll for one. No two notices of one key are open at once.
     ///
     /// A listener that hears at once leaves it as it is: it answers Done.
     fn poll(&self, notice: u64, cx: &mut Context<'_>) -> Poll<ListenerEnd>

@@ -1,5 +1,5 @@
 //! What a look under the lock tells, by no call.
-ghost use Rattle.std.specs.Prelude.{◌≡◌, IfOk};
+ghost use Rattle.std.specs.Prelude.{◌≡◌, Some, IfOk, IfSome};
 ghost use Rattle.std.specs.Option.{option_map};
 ghost use Rattle.std.specs.HashMap.{hash_map_len};
 ghost use Rattle.moka_desk.specs.StandsFor.{StandsFor};
@@ -12,6 +12,8 @@ use crate::ground::Reach;
 use crate::kept::Kept;
 use moka_desk::Desk;
 use moka_hist::{TableAnswer, TableOp, TableTurn};
+use moka_init::Flow;
+use moka_needs::Need;
 use moka_table::{PlainTable, Table};
 use moka_values::Exact;
 use std::alloc::AllocError;
@@ -36,6 +38,33 @@ impl<K: Eq + Hash + Exact, V: Exact, E: Exact, S: BuildHasher + Drop> Reach<K, V
     ghost use Rattle.moka_layers.specs.Layers.{WorldIs};
     ghost use Rattle.moka_table.specs.Plain.{plain_table};
     ghost use Rattle.moka_kept.specs.Kept.{IsKept, in_hand};
+    ghost use Rattle.moka_kept.specs.Stops.{FindsKept};
+    ghost use Rattle.moka_hist.specs.Plan.{locking};
+    ghost use Rattle.moka_init.specs.FlowPlan.{call_of};
+
+    /// The notice that keeps the lock which the flow's call is to take next, if one does.
+    pub(crate) fn keeper(&self, flow: &Flow<K, V, E>) -> Option<u64>
+        requires { IsKept K.eq self.now.layers }
+        ensures { IfSome result (FindsKept K.eq flow.now) }
+    {
+        match flow.locking() {
+            Some(key) => self.keeper_of(flow, key),
+            None => None,
+        }
+    }
+
+    // The notice that keeps the lock of this key, which the flow's call is to take next, if one
+    // does.
+    fn keeper_of(&self, flow: &Flow<K, V, E>, key: &K) -> Option<u64>
+        requires kept { IsKept K.eq self.now.layers }
+        requires next { locking (call_of flow.now).plan ≡ Some key.now }
+        ensures { IfSome result (FindsKept K.eq flow.now) }
+    {
+        match self.layers.desk.has(flow.number(), Need::LockKey) {
+            true => self.layers.desk.keeper(key),
+            false => None,
+        }
+    }
 
     // How many records the desk publishes.
     fn entry_count(&self) -> u64

@@ -17,8 +17,9 @@ pub enum OwnAsk<K, V> {
 pub enum Stop<K, V, E> {
     /// It goes on, by another hold.
     Going,
-    /// Something is missing; the task is parked, or asked to be polled again, where this is None.
-    Waits(Option<ParkedTask>),
+    /// Something is missing; the task is parked, or asked to be polled again, where that is None.
+    /// Where it is a key's lock which a notice keeps, the number of that notice stands beside.
+    Waits(Option<ParkedTask>, Option<u64>),
     /// It asks its caller.
     Asks(OwnAsk<K, V>),
     /// It asks the listener, by this notice.

@@ -2,7 +2,7 @@
 use Rattle.std.proofs.Common.{◌≡◌, ℕ, ◌==◌, Bool, true, false, Option, Some, None, is_some, IsSome, inl, inr, ◌⊎◌, refl, sym, ap, ◌∙◌}
 use Rattle.std.proofs.lemmas.Bool.{false≢true}
 use Rattle.std.specs.Cmp.{IsEquivalence}
-use Rattle.std.specs.Option.{IsSomeAnd, option_map_or, option_and_then}
+use Rattle.std.specs.Option.{IsSomeAnd, option_map_or, option_and_then, option_or}
 use Rattle.moka_hist.specs.State.{State}
 use Rattle.moka_hist.specs.Plan.{Item}
 use Rattle.moka_hist.specs.Plan as plan
@@ -12,6 +12,8 @@ use Rattle.moka_hist.specs.declared.loads.Load.{Load}
 use Rattle.moka_laws.specs.Missing.{MissingCanCome, CanCome, HasOwner, OwnsAlike}
 use Rattle.moka_hist.specs.Notices.{HoldsLock}
 use Rattle.moka_hist.specs.SoundDesk.{SoundDesk}
+use Rattle.moka_hist.specs.Telling.{is_asked}
+use Rattle.moka_hist.specs.declared.events.Told.TheVariants as told
 use Rattle.moka_laws.proofs.Locking.{in_locking, is_listening, locker_live}
 use Rattle.moka_laws.proofs.Outcomes.{computes_of}
 use Rattle.moka_laws.proofs.SoundReached.{reached_sound}
@@ -42,11 +44,18 @@ module _ {K V E : Type 0} (eq : K → K → Bool) where
       sound : SoundDesk eq s.world.desk
       sound = reached_sound eq laws s h
 
-      live : (holder : ℕ) (l : Option K) → s.world.desk.locked holder ≡ l → IsSomeAnd l (λ own. eq own key ≡ true) → HoldsLock s holder
-      live holder None e own = absurd own
+      -- a notice that keeps a lock runs
+      kept : (holder : ℕ) (o : Option K) → s.world.desk.kept holder ≡ o → IsSomeAnd o (λ own. eq own key ≡ true) →
+          IsSome (s.world.desk.kept holder) × (is_asked s.world.desk holder told.Done ≡ true)
+      kept holder None e own = absurd own
+      kept holder (Some k) e own = (ap is_some e, sound.keeps holder (ap is_some e))
+
+      live : (holder : ℕ) (l : Option K) → s.world.desk.locked holder ≡ l → IsSomeAnd (option_or l (s.world.desk.kept holder)) (λ own. eq own key ≡ true) →
+          HoldsLock s holder ⊎ (IsSome (s.world.desk.kept holder) × (is_asked s.world.desk holder told.Done ≡ true))
+      live holder None e own = inr (kept holder (s.world.desk.kept holder) refl own)
       live holder (Some k) e own =
           let i = in_locking eq s h in
-          locker_live s i holder k (is_listening s i holder (ap is_some e)) e
+          inl (locker_live s i holder k (is_listening s i holder (ap is_some e)) e)
 
       by : (o : Option ℕ) → s.world.desk.locks key ≡ o → option_map_or (λ v. v == n) o true ≡ false → CanCome eq s n (plan.Lock key)
       by None e m = absurd (false≢true (sym m))

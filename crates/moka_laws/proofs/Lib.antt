@@ -40,6 +40,7 @@ pub mod Replacing
 pub mod Noticing
 pub mod SettledNotices
 pub mod Unsettled
+pub mod Keepers
 pub mod Safe
 pub mod SoundReached
 pub mod Unread

@@ -1,6 +1,7 @@
 -- A call holds a lock exactly between its locking and its freeing, where a listener is set.
 use Rattle.std.proofs.Common.{◌≡◌, ℕ, ◌+◌, ◌==◌, Bool, true, false, cond, List, [], ◌∷◌, Option, Some, None, is_some, IsSome, IsNone, refl, sym, ap, ◌∙◌, subst, arith, map, ◌++◌}
 use Rattle.std.proofs.lemmas.Bool.{eqb-true, false≢true}
+use Rattle.std.specs.Prelude.{◌↔◌}
 use Rattle.moka_hist.specs.declared.replies.Answer.TheVariants as reply
 use Rattle.moka_hist.specs.Finite.{put_at}
 use Rattle.moka_hist.specs.State.{State, World, Call, DeskPart}
@@ -9,7 +10,7 @@ use Rattle.moka_hist.specs.Plan as plan
 use Rattle.moka_hist.specs.Next.{Next, goes}
 use Rattle.moka_hist.specs.Looking.{hits, misses, keeps as stays, finds_pair}
 use Rattle.moka_hist.specs.Loading.{after_read, after_told, retries}
-use Rattle.moka_hist.specs.Notices.{IsUnderLock, HoldsLock, LocksAreHeld}
+use Rattle.moka_hist.specs.Notices.{IsUnderLock, HoldsLock}
 use Rattle.moka_hist.specs.Step.{Step}
 use Rattle.moka_hist.specs.Run.{IsReached, started, fresh_call}
 use Rattle.moka_hist.specs.declared.events.Start.{Start}
@@ -742,15 +743,15 @@ module _ {K V E : Type 0} where
   inside_key k key [] h e = absurd h
   inside_key k key (_ ∷ rest) h e = absurd (none_some e)
 
-  key_under : (key : K) (p : List (Item K V E)) → locked_key p ≡ Some key → IsUnderLock p
-  key_under key (plan.Get (plan.To_evict there stamp cause) at ∷ rest) e = tt
-  key_under key (plan.Holds at stamp cause there stored ∷ rest) e = tt
-  key_under key (plan.Moment change ∷ rest) e = tt
-  key_under key (plan.Write there value moment ∷ rest) e = tt
-  key_under key (plan.Out removal there ∷ rest) e = tt
-  key_under key (plan.Notice there old cause upsert ∷ rest) e = tt
-  key_under key [] e = absurd (none_some e)
-  key_under key (_ ∷ rest) e = absurd (none_some e)
+  under_key : (key : K) (p : List (Item K V E)) → locked_key p ≡ Some key → IsUnderLock p
+  under_key key (plan.Get (plan.To_evict there stamp cause) at ∷ rest) e = tt
+  under_key key (plan.Holds at stamp cause there stored ∷ rest) e = tt
+  under_key key (plan.Moment change ∷ rest) e = tt
+  under_key key (plan.Write there value moment ∷ rest) e = tt
+  under_key key (plan.Out removal there ∷ rest) e = tt
+  under_key key (plan.Notice there old cause upsert ∷ rest) e = tt
+  under_key key [] e = absurd (none_some e)
+  under_key key (_ ∷ rest) e = absurd (none_some e)
 
   module _ (s : State K V E) (i : IsLocking s) where
     -- the key that a call is to write or to tell of is locked by it
@@ -759,7 +760,7 @@ module _ {K V E : Type 0} where
     key_locked n c key on live e = by (s.world.desk.locked n) refl
       where
         by : (l : Option K) → s.world.desk.locked n ≡ l → l ≡ Some key
-        by None f = absurd (under_not c.plan (key_under key c.plan e) (subst (λ v. Outside (plan_left v)) live ((i.locks n).outside on f)))
+        by None f = absurd (under_not c.plan (under_key key c.plan e) (subst (λ v. Outside (plan_left v)) live ((i.locks n).outside on f)))
         by (Some k) f = ap Some (inside_key k key c.plan (subst (λ v. Inside k (plan_left v)) live ((i.locks n).inside on k f)) e)
 
     -- a call that holds a lock is live, and between its locking and its freeing
@@ -777,16 +778,14 @@ module _ {K V E : Type 0} where
         by true e = refl
         by false e = absurd (false≢true (sym (ap is_some ((i.locks n).none e).0) ∙ some))
 
-    pub locks_held : LocksAreHeld s
-    locks_held = record {
-      held = λ n on. ((λ some. by n on (s.world.desk.locked n) refl some), λ h. holds n on h (s.world.desk.locked n) refl);
-      none = is_listening;
-    }
+    -- the number of a call holds a lock exactly where that is between its locking and its freeing
+    pub lock_is_held : (n : ℕ) → s.world.desk.rules.listener ≡ true → IsSome (s.world.desk.locked n) ↔ HoldsLock s n
+    lock_is_held n on = ((λ some. by (s.world.desk.locked n) refl some), λ h. holds h (s.world.desk.locked n) refl)
       where
-        by : (n : ℕ) → s.world.desk.rules.listener ≡ true → (l : Option K) → s.world.desk.locked n ≡ l → IsSome l → HoldsLock s n
-        by n on None e some = absurd (false≢true some)
-        by n on (Some k) e some = locker_live n k on e
+        by : (l : Option K) → s.world.desk.locked n ≡ l → IsSome l → HoldsLock s n
+        by None e some = absurd (false≢true some)
+        by (Some k) e some = locker_live n k on e
 
-        holds : (n : ℕ) → s.world.desk.rules.listener ≡ true → HoldsLock s n → (l : Option K) → s.world.desk.locked n ≡ l → IsSome l
-        holds n on h (Some k) e = refl
-        holds n on h None e = absurd (under_not h.call.plan h.under (subst (λ v. Outside (plan_left v)) h.live ((i.locks n).outside on e)))
+        holds : HoldsLock s n → (l : Option K) → s.world.desk.locked n ≡ l → IsSome l
+        holds h (Some k) e = refl
+        holds h None e = absurd (under_not h.call.plan h.under (subst (λ v. Outside (plan_left v)) h.live ((i.locks n).outside on e)))

@@ -2,19 +2,19 @@
 use Rattle.std.proofs.Common.{◌≡◌, ◌≢◌, ◌⊎◌, inl, inr, ℕ, ◌+◌, ◌<◌, ◌==◌, Bool, true, false, cond, List, [], ◌∷◌, ◌++◌, Option, Some, None, is_some, refl, sym, ap, ◌∙◌, subst, arith}
 use Rattle.std.proofs.lemmas.Bool.{eqb-true, false≢true}
 use Rattle.std.specs.Cmp.{IsEquivalence}
-use Rattle.std.specs.Option.{option_map, option_map_or}
+use Rattle.std.specs.Option.{option_map, option_map_or, option_or}
 use Rattle.moka_hist.specs.Finite.{put_at, times}
 use Rattle.moka_hist.specs.State.{State, World, Call, DeskPart}
 use Rattle.moka_hist.specs.Plan.{Item, plan_of}
 use Rattle.moka_hist.specs.Plan as plan
 use Rattle.moka_hist.specs.Next.{Next}
-use Rattle.moka_hist.specs.Notices.{OpensNotice}
+use Rattle.moka_hist.specs.Notices.{LocksAreHeld, OpensNotice}
 use Rattle.moka_hist.specs.SoundDesk.{SoundDesk}
 use Rattle.moka_hist.specs.Dropping.{dropped}
 use Rattle.moka_hist.specs.Telling.{ended, with_end}
 use Rattle.moka_hist.specs.Step.{Step, state_after}
-use Rattle.moka_hist.specs.Run.{started, fresh_call}
-use Rattle.moka_hist.specs.Visits.{cause_of, runs}
+use Rattle.moka_hist.specs.Run.{IsReached, started, fresh_call}
+use Rattle.moka_hist.specs.Visits.{cause_of, is_running, key_under, runs}
 use Rattle.moka_hist.specs.declared.replies.Answer.TheVariants as said_as
 use Rattle.moka_hist.specs.declared.rules.Cause.{Cause}
 use Rattle.moka_hist.specs.declared.events.Start.{Start}
@@ -23,11 +23,13 @@ use Rattle.moka_hist.specs.declared.notices.NoticeState.TheVariants as notice
 use Rattle.moka_hist.specs.declared.records.Mode.TheVariants as mode
 use Rattle.moka_hist.specs.declared.records.Stored.{Stored}
 use Rattle.moka_hist.specs.declared.accesses.Turn.{Turn}
-use Rattle.moka_laws.specs.Listening.{LocksAreOne, ReachedNoticesAreInOrder}
+use Rattle.moka_laws.specs.Listening.{KeptAreTold, LocksAreOne, ReachedLocksAreHeld, ReachedNoticesAreApart, ReachedNoticesAreInOrder}
 use Rattle.moka_laws.proofs.Before.{Before, before_is, is_before, before_more, before_last, before_split, before_has}
 use Rattle.moka_laws.proofs.Counting.{none_some, some_same, put_cases, put_here, put_there, differ, differ_not}
 use Rattle.moka_laws.proofs.Owning.{plan_left}
-use Rattle.moka_laws.proofs.Locking.{Locks}
+use Rattle.moka_hist.proofs.Owners.{is_none_of}
+use Rattle.moka_laws.proofs.Keepers.{in_keeping, step_kept}
+use Rattle.moka_laws.proofs.Locking.{Locks, in_locking, is_listening, lock_is_held}
 use Rattle.moka_laws.proofs.Plans.{IsTail, Answering, Settling, IsDrained, Looking, Putting, IsPosted, Draining, Ended, Locking, IsPlan, Posted, Drained, Posting, Hearing, Noticing, Listening, Unlocking, Turning, Applying, Ending, Judging, Owning, Giving, Reading, Asking, Telling, Writing, Removing, Locking_out, Choosing, Finding, Chosen, Taking, Freeing, Hiding, Registering, Idling, Asking_op, Owning_key, Owning_alone, Reading_key, Telling_op, Walking, Maintaining, Applying_all, Ending_all}
 use Rattle.moka_laws.proofs.Replacing.{opens_notice, listening, not_opened, opened_committed, told_once}
 use Rattle.moka_laws.proofs.Rules.{fresh_plan}
@@ -378,8 +380,8 @@ module _ {K V E : Type 0} where
       by (Some k) f = ap Some (q.inside on k f).0
 
 module _ {K V E : Type 0} (eq : K → K → Bool) where
-  -- Notices of one key were opened in the order of their writes, and a notice runs beside an
-  -- earlier one only once the call of that one is gone.
+  -- Notices of one key were opened in the order of their writes, and an earlier one runs no more. A
+  -- notice that runs is heard by its call, or keeps the lock of its key.
   record IsOrdered (s : State K V E) : Type 0 where
     noticing : IsNoticing s
     sound : IsSound eq s
@@ -391,13 +393,39 @@ module _ {K V E : Type 0} (eq : K → K → Bool) where
         eq x.key key ≡ true → Before s.world.table.committed a b
     hears : (a : ℕ) (c : Call K V E) (x : Notice K V) → s.calls a ≡ Some c → s.world.desk.notices a ≡ Some x → runs x.state ≡ true →
         IsHearing c.plan × (s.world.desk.locked a ≡ Some x.key)
-    beside : (a b : ℕ) (x y : Notice K V) → Before s.world.desk.opened a b → s.world.desk.notices a ≡ Some x → s.world.desk.notices b ≡ Some y →
-        eq x.key y.key ≡ true → runs x.state ≡ true → runs y.state ≡ true → s.calls a ≡ None
+    keeps : (a : ℕ) (x : Notice K V) → s.calls a ≡ None → s.world.desk.notices a ≡ Some x → runs x.state ≡ true → s.world.desk.kept a ≡ Some x.key
+    over : (a b : ℕ) (x y : Notice K V) → Before s.world.desk.opened a b → s.world.desk.notices a ≡ Some x → s.world.desk.notices b ≡ Some y →
+        eq x.key y.key ≡ true → runs x.state ≡ true → ⊥
+
+  -- the lock that a call holds is held under its number, and so is that which its notice keeps
+  pub under_locked : (w : DeskPart K V E) (a : ℕ) (k : K) → w.locked a ≡ Some k → key_under w a ≡ Some k
+  under_locked w a k e = ap (λ (o : Option K). option_or o (w.kept a)) e
+
+  pub under_kept : (w : DeskPart K V E) → SoundDesk eq w → (a : ℕ) (k : K) → w.kept a ≡ Some k → key_under w a ≡ Some k
+  under_kept w h a k e = by (w.locked a) (h.apart a)
+    where
+      by : (o : Option K) → (is_some o ≡ true → is_some (w.kept a) ≡ false) → option_or o (w.kept a) ≡ Some k
+      by None apart = e
+      by (Some q) apart = absurd (false≢true (sym (apart refl) ∙ ap is_some e))
+
+  -- locks of equal keys are held under one number
+  pub one_under : (w : DeskPart K V E) → SoundDesk eq w → (a b : ℕ) (k q : K) → key_under w a ≡ Some k →
+      key_under w b ≡ Some q → eq k q ≡ true → a ≡ b
+  one_under w h a b k q e f same = some_same (sym (h.locked k a e) ∙ h.one_locker k q same ∙ h.locked q b f)
 
   -- two calls don't hold locks of equal keys
   pub one_lock : (w : DeskPart K V E) → SoundDesk eq w → (a b : ℕ) (k q : K) → w.locked a ≡ Some k →
       w.locked b ≡ Some q → eq k q ≡ true → a ≡ b
-  one_lock w h a b k q e f same = some_same (sym (h.locked k a e) ∙ h.one_locker k q same ∙ h.locked q b f)
+  one_lock w h a b k q e f same = one_under w h a b k q (under_locked w a k e) (under_locked w b q f) same
+
+  -- a notice that runs has the lock of its key: its call holds that, or the notice keeps it
+  running_under : (s : State K V E) → IsOrdered s → (a : ℕ) (x : Notice K V) → s.world.desk.notices a ≡ Some x → runs x.state ≡ true →
+      key_under s.world.desk a ≡ Some x.key
+  running_under s i a x e r = by (s.calls a) refl
+    where
+      by : (o : Option (Call K V E)) → s.calls a ≡ o → key_under s.world.desk a ≡ Some x.key
+      by None gone = under_kept s.world.desk i.sound.sound a x.key (i.keeps a x gone e r)
+      by (Some c) live = under_locked s.world.desk a x.key (i.hears a c x live e r).1
 
   module _ (s : State K V E) (i : IsOrdered s) (n : ℕ) (c : Call K V E) (live : s.calls n ≡ Some c) where
     old_hears : running s.world.desk.notices n ≡ true → IsHearing c.plan
@@ -407,15 +435,11 @@ module _ {K V E : Type 0} (eq : K → K → Bool) where
         by None e r = absurd (false≢true r)
         by (Some x) e r = (i.hears n c x live e r).0
 
-    -- this call is not gone
-    gone_other : (a : ℕ) (left : Option (Call K V E)) → s.calls a ≡ None → put_at s.calls n left a ≡ None
-    gone_other a left gone = put_there s.calls n left a (differ n a (λ e. none_some (sym gone ∙ ap s.calls (sym e) ∙ live))) ∙ gone
-
     keeps_on : (w : World K V E) (left : Option (Call K V E)) →
         KeepsOrder s.world n w.desk.notices w.desk.opened w.table.committed w.desk.locked left →
         let t : State K V E = record { world = w; calls = put_at s.calls n left } in
-        IsNoticing t → IsSound eq t → IsOrdered t
-    keeps_on w left b noticing sound = record {
+        IsNoticing t → IsSound eq t → w.desk.kept ≡ s.world.desk.kept → IsOrdered t
+    keeps_on w left b noticing sound kept = record {
       noticing = noticing;
       sound = sound;
       order = λ p q x y h e f same. b.more p q (i.order p q x y (was_opened p q h) (was p x e) (was q y f) same);
@@ -429,11 +453,17 @@ module _ {K V E : Type 0} (eq : K → K → Bool) where
           put_cases s.calls n left p (Some d) (IsHearing d.plan × (w.desk.locked p ≡ Some x.key)) lives
           (λ here there. subst (λ v. IsHearing d.plan × (w.desk.locked v ≡ Some x.key)) here (own d x there (ap w.desk.notices here ∙ e) r))
           (λ other there. let h = i.hears p d x there (was p x e) r in (h.0, b.others p other ∙ h.1));
-      beside = λ p q x y h e f same r u. gone_other p left (i.beside p q x y (was_opened p q h) (was p x e) (was q y f) same r u);
+      keeps = λ p x gone e r. put_cases s.calls n left p None (w.desk.kept p ≡ Some x.key) gone
+          (λ here none. absurd (subst (λ v. IsHearing (plan_left v)) none (b.hears (run p x here e r)).0))
+          (λ other none. ap (λ g. g p) kept ∙ i.keeps p x none (was p x e) r);
+      over = λ p q x y h e f same r. i.over p q x y (was_opened p q h) (was p x e) (was q y f) same r;
     }
       where
         was : (m : ℕ) (x : Notice K V) → w.desk.notices m ≡ Some x → s.world.desk.notices m ≡ Some x
         was m x e = ap (λ g. g m) (sym b.same_notices) ∙ e
+
+        run : (p : ℕ) (x : Notice K V) → n ≡ p → w.desk.notices p ≡ Some x → runs x.state ≡ true → running s.world.desk.notices n ≡ true
+        run p x here e r = ap (λ o. option_map_or (λ v. runs v.state) o false) (was n x (ap w.desk.notices here ∙ e)) ∙ r
 
         was_opened : (p q : ℕ) → Before w.desk.opened p q → Before s.world.desk.opened p q
         was_opened p q h = subst (λ v. Before v p q) b.same_opened h
@@ -448,8 +478,8 @@ module _ {K V E : Type 0} (eq : K → K → Bool) where
     opens_on : (w : World K V E) (left : Option (Call K V E)) →
         Opens s.world n c.plan w.desk.notices w.desk.opened w.table.committed w.desk.locked left →
         let t : State K V E = record { world = w; calls = put_at s.calls n left } in
-        IsNoticing t → IsSound eq t → IsOrdered t
-    opens_on w left b noticing sound = record {
+        IsNoticing t → IsSound eq t → w.desk.kept ≡ s.world.desk.kept → IsOrdered t
+    opens_on w left b noticing sound kept = record {
       noticing = noticing;
       sound = sound;
       order = λ p q x y h e f same. subst (λ v. Before v p q) (sym b.same_committed) (by_order p q x y e f same (parts p q h));
@@ -462,7 +492,10 @@ module _ {K V E : Type 0} (eq : K → K → Bool) where
           put_cases s.calls n left p (Some d) (IsHearing d.plan × (w.desk.locked p ≡ Some x.key)) lives
           (λ here there. subst (λ v. IsHearing d.plan × (w.desk.locked v ≡ Some x.key)) here (own d x there (ap w.desk.notices here ∙ e) r))
           (λ other there. let h = i.hears p d x there (at_other p x other e) r in (h.0, ap (λ g. g p) b.same_locked ∙ h.1));
-      beside = λ p q x y h e f same r u. by_beside p q x y e f same r u (parts p q h);
+      keeps = λ p x gone e r. put_cases s.calls n left p None (w.desk.kept p ≡ Some x.key) gone
+          (λ here none. absurd (subst (λ v. IsHearing (plan_left v)) none (hears_now x (ap w.desk.notices here ∙ e) r)))
+          (λ other none. ap (λ g. g p) kept ∙ i.keeps p x none (at_other p x other e) r);
+      over = λ p q x y h e f same r. by_over p q x y e f same r (parts p q h);
     }
       where
         held : s.world.desk.locked n ≡ Some b.key
@@ -515,6 +548,12 @@ module _ {K V E : Type 0} (eq : K → K → Bool) where
             (due_locked s i.noticing q d key old cause upsert rest there is)
             (subst (λ v. eq v key ≡ true) (ap (λ (v : Notice K V). v.key) (sym e.1) ∙ b.named) same)))
 
+        -- the call hears the notice that it has opened
+        hears_now : (x : Notice K V) → w.desk.notices n ≡ Some x → runs x.state ≡ true → IsHearing (plan_left left)
+        hears_now x e r =
+            let is : b.told ≡ x = some_same (sym (put_here s.world.desk.notices n (Some b.told)) ∙ ap (λ g. g n) (sym b.new_notices) ∙ e) in
+            b.hears (ap (λ (v : Notice K V). runs v.state) is ∙ r)
+
         own : (d : Call K V E) (x : Notice K V) → left ≡ Some d → w.desk.notices n ≡ Some x → runs x.state ≡ true →
             IsHearing d.plan × (w.desk.locked n ≡ Some x.key)
         own d x there e r =
@@ -523,24 +562,21 @@ module _ {K V E : Type 0} (eq : K → K → Bool) where
               ap (λ g. g n) b.same_locked ∙ held ∙ ap Some (sym (ap (λ (v : Notice K V). v.key) (sym is) ∙ b.named)),
             )
 
-        by_beside : (p q : ℕ) (x y : Notice K V) → w.desk.notices p ≡ Some x → w.desk.notices q ≡ Some y → eq x.key y.key ≡ true →
-            runs x.state ≡ true → runs y.state ≡ true →
-            Before s.world.desk.opened p q ⊎ ((q ≡ n) × (0 < times p s.world.desk.opened)) → put_at s.calls n left p ≡ None
-        by_beside p q x y e f same r u (inl h) =
+        -- an earlier notice of this key runs no more: it would have the lock that this call holds
+        by_over : (p q : ℕ) (x y : Notice K V) → w.desk.notices p ≡ Some x → w.desk.notices q ≡ Some y → eq x.key y.key ≡ true →
+            runs x.state ≡ true → Before s.world.desk.opened p q ⊎ ((q ≡ n) × (0 < times p s.world.desk.opened)) → ⊥
+        by_over p q x y e f same r (inl h) =
             let has = before_has s.world.desk.opened p q h in
-            gone_other p left (i.beside p q x y h (at_other p x (earlier p has.0) e) (at_other q y (earlier q has.1) f) same r u)
-        by_beside p q x y e f same r u (inr h) = gone_other p left (is_gone (s.calls p) refl)
-          where
-            is_gone : (o : Option (Call K V E)) → s.calls p ≡ o → o ≡ None
-            is_gone None there = refl
-            is_gone (Some d) there =
-                let lock = (i.hears p d x there (at_other p x (earlier p h.1) e) r).1 in
-                absurd (differ_not n p (earlier p h.1) (sym (one_lock s.world.desk i.sound.sound p n x.key b.key lock held
-                (subst (λ v. eq x.key v ≡ true) (told_at y q h.0 f) same))))
+            i.over p q x y h (at_other p x (earlier p has.0) e) (at_other q y (earlier q has.1) f) same r
+        by_over p q x y e f same r (inr h) =
+            differ_not n p (earlier p h.1) (sym (one_under s.world.desk i.sound.sound p n x.key b.key
+            (running_under s i p x (at_other p x (earlier p h.1) e) r)
+            (under_locked s.world.desk n b.key held)
+            (subst (λ v. eq x.key v ≡ true) (told_at y q h.0 f) same)))
 
     ordered_on : (w : World K V E) (next : Next K V E) →
         Leaves s.world n c.plan w.desk.notices w.desk.opened w.table.committed w.desk.locked next.left →
-        IsNoticing (state_after s n w next) → IsSound eq (state_after s n w next) → IsOrdered (state_after s n w next)
+        IsNoticing (state_after s n w next) → IsSound eq (state_after s n w next) → w.desk.kept ≡ s.world.desk.kept → IsOrdered (state_after s n w next)
     ordered_on w next (inl b) = keeps_on w next.left b
     ordered_on w next (inr b) = opens_on w next.left b
 
@@ -549,16 +585,20 @@ module _ {K V : Type 0} where
   run_state : (o : Option (Notice K V)) (x : Notice K V) → o ≡ Some x → option_map_or (λ v. runs v.state) o false ≡ true → runs x.state ≡ true
   run_state o x e r = ap (λ v. option_map_or (λ (u : Notice K V). runs u.state) v false) (sym e) ∙ r
 
+  notice_there : (o : Option (Notice K V)) → option_map_or (λ v. runs v.state) o false ≡ true → (x : Notice K V) × (o ≡ Some x) × (runs x.state ≡ true)
+  notice_there None r = absurd (false≢true r)
+  notice_there (Some x) r = (x, refl, r)
+
 module _ {K V E : Type 0} (eq : K → K → Bool) (laws : IsEquivalence eq) where
   ordered_step : (s t : State K V E) (n : ℕ) (turn : Turn K V E) → IsOrdered eq s → Step eq s n turn t → IsOrdered eq t
   ordered_step s t n turn i step =
       let c : Call K V E = step.call in
-      let kept : IsNoticing t → IsSound eq t → IsOrdered eq t =
+      let kept : IsNoticing t → IsSound eq t → t.world.desk.kept ≡ s.world.desk.kept → IsOrdered eq t =
       step_cases eq (λ new next. Leaves s.world n c.plan new.desk.notices new.desk.opened new.table.committed new.desk.locked next.left)
-      (λ v _. IsNoticing v → IsSound eq v → IsOrdered eq v) s t n turn step
+      (λ v _. IsNoticing v → IsSound eq v → v.world.desk.kept ≡ s.world.desk.kept → IsOrdered eq v) s t n turn step
       (at_plan eq s.world n c (old_hears eq s i n c step.live) (i.noticing.replacing.known n c step.live).plan)
       (λ w next b. ordered_on eq s i n c step.live w next b) in
-      kept ((noticing_kept eq).step s t n turn i.noticing step) ((sound_kept eq laws).step s t n turn i.sound step)
+      kept ((noticing_kept eq).step s t n turn i.noticing step) ((sound_kept eq laws).step s t n turn i.sound step) (step_kept eq s t n turn step)
 
   ordered_start : (s : State K V E) (start : Start K V) → IsOrdered eq s → IsOrdered eq (started s start)
   ordered_start s start i =
@@ -575,8 +615,9 @@ module _ {K V E : Type 0} (eq : K → K → Bool) (laws : IsEquivalence eq) wher
             (λ other there. i.due p q b x key old cause upsert rest there is e same);
         hears = λ p b x lives e r. put_cases s.calls new (Some d) p (Some b) (IsHearing b.plan × (s.world.desk.locked p ≡ Some x.key)) lives
             (λ here there. absurd (fresh p x here e)) (λ other there. i.hears p b x there e r);
-        beside = λ p q x y h e f same r u.
-            put_there s.calls new (Some d) p (differ new p (λ here. fresh p x here e)) ∙ i.beside p q x y h e f same r u;
+        keeps = λ p x gone e r. put_cases s.calls new (Some d) p None (s.world.desk.kept p ≡ Some x.key) gone
+            (λ here some. absurd (none_some (sym some))) (λ other none. i.keeps p x none e r);
+        over = i.over;
       }
     where
       -- the new number has no notice
@@ -596,8 +637,18 @@ module _ {K V E : Type 0} (eq : K → K → Bool) (laws : IsEquivalence eq) wher
     hears = λ p d x lives e r. put_cases s.calls n None p (Some d) (IsHearing d.plan × (put_at s.world.desk.locked n None p ≡ Some x.key)) lives
         (λ here there. absurd (none_some there))
         (λ other there. let h = i.hears p d x there e r in (h.0, put_there s.world.desk.locked n None p other ∙ h.1));
-    beside = λ p q x y h e f same r u. gone_other eq s i n c live p None (i.beside p q x y h e f same r u);
+    keeps = λ p x gone e r. kept_left p x (n == p) refl gone e r;
+    over = i.over;
   }
+    where
+      kept_left : (p : ℕ) (x : Notice K V) (b : Bool) → (n == p) ≡ b → cond b None (s.calls p) ≡ None → s.world.desk.notices p ≡ Some x → runs x.state ≡ true →
+          cond b (cond (is_running s.world.desk n) (key_under s.world.desk n) None) (s.world.desk.kept p) ≡ Some x.key
+      kept_left p x false other gone e r = i.keeps p x gone e r
+      kept_left p x true is gone e r =
+          let here : s.world.desk.notices n ≡ Some x = ap s.world.desk.notices (eqb-true n p is) ∙ e in
+          let run : is_running s.world.desk n ≡ true = ap (λ o. option_map_or (λ (v : Notice K V). runs v.state) o false) here ∙ r in
+          ap (λ b. cond b (key_under s.world.desk n) None) run
+          ∙ under_locked eq s.world.desk n x.key (i.hears n c x live here r).1
 
   -- a notice that has ended is one that was there, with its key, and doesn't run
   ended_was : (d : DeskPart K V E) (n m : ℕ) (x : Notice K V) → (ended d n).notices m ≡ Some x →
@@ -619,6 +670,18 @@ module _ {K V E : Type 0} (eq : K → K → Bool) (laws : IsEquivalence eq) wher
       by false f is = (x, is, refl, λ r. refl)
       by true f is = from (d.notices n) refl is (eqb-true n m f)
 
+  -- one that runs still is another
+  ended_other : (d : DeskPart K V E) (n m : ℕ) (x : Notice K V) → (ended d n).notices m ≡ Some x → runs x.state ≡ true → (n == m) ≡ false
+  ended_other d n m x e r = by (n == m) e
+    where
+      over : (o : Option (Notice K V)) → option_map with_end o ≡ Some x → ⊥
+      over None is = none_some is
+      over (Some v) is = false≢true (ap (λ (u : Notice K V). runs u.state) (some_same is) ∙ r)
+
+      by : (b : Bool) → cond b (option_map with_end (d.notices n)) (d.notices m) ≡ Some x → b ≡ false
+      by false is = refl
+      by true is = absurd (over (d.notices n) is)
+
   ordered_kept : IsInvariant {K = K} {V = V} {E = E} eq (IsOrdered eq)
   ordered_kept = record {
     fresh = λ division divides rules size built has_log. record {
@@ -627,7 +690,8 @@ module _ {K V E : Type 0} (eq : K → K → Bool) (laws : IsEquivalence eq) wher
       order = λ a b x y h e f same. absurd h;
       due = λ a b c x key old cause upsert rest live is e same. absurd (none_some live);
       hears = λ a c x live e r. absurd (none_some live);
-      beside = λ a b x y h e f same r u. absurd h;
+      keeps = λ a x gone e r. absurd (none_some e);
+      over = λ a b x y h e f same r. absurd h;
     };
     at = λ s moment i. record {
       noticing = (noticing_kept eq).at s moment i.noticing;
@@ -635,7 +699,8 @@ module _ {K V E : Type 0} (eq : K → K → Bool) (laws : IsEquivalence eq) wher
       order = i.order;
       due = i.due;
       hears = i.hears;
-      beside = i.beside;
+      keeps = i.keeps;
+      over = i.over;
     };
     start = ordered_start;
     step = ordered_step;
@@ -645,7 +710,8 @@ module _ {K V E : Type 0} (eq : K → K → Bool) (laws : IsEquivalence eq) wher
       order = i.order;
       due = i.due;
       hears = i.hears;
-      beside = i.beside;
+      keeps = i.keeps;
+      over = i.over;
     };
     hear = λ s n off running i. record {
       noticing = (noticing_kept eq).hear s n off running i.noticing;
@@ -658,22 +724,56 @@ module _ {K V E : Type 0} (eq : K → K → Bool) (laws : IsEquivalence eq) wher
           let v = ended_was s.world.desk n p x e in i.due p q c v.0 key old cause upsert rest live is v.1 (rw v.2 same);
       hears = λ p c x live e r.
           let v = ended_was s.world.desk n p x e in i.hears p c x live (v.1 ∙ ap Some (v.3 r)) r;
-      beside = λ p q x y h e f same r k.
+      keeps = λ p x gone e r.
+          let v = ended_was s.world.desk n p x e in
+          put_there s.world.desk.kept n None p (ended_other s.world.desk n p x e r) ∙ i.keeps p x gone (v.1 ∙ ap Some (v.3 r)) r;
+      over = λ p q x y h e f same r.
           let v = ended_was s.world.desk n p x e in
           let u = ended_was s.world.desk n q y f in
-          i.beside p q x y h (v.1 ∙ ap Some (v.3 r)) (u.1 ∙ ap Some (u.3 k)) same r k;
+          i.over p q x u.0 h (v.1 ∙ ap Some (v.3 r)) u.1 (rw u.2 same) r;
     };
     drop = λ s n c live between i. ordered_drop s n c live between i;
   }
 
+  in_ordered : (s : State K V E) → IsReached eq s → IsOrdered eq s
+  in_ordered s h = in_reached eq (IsOrdered eq) ordered_kept s h
+
   pub locks_one : LocksAreOne K V E eq
-  locks_one s n m a b h e f same = one_lock eq s.world.desk (reached_sound eq laws s h) n m a b e f same
+  locks_one s n m a b h e f same = one_under eq s.world.desk (reached_sound eq laws s h) n m a b e f same
 
   pub in_order : ReachedNoticesAreInOrder K V E eq
   in_order s h =
-      let i : IsOrdered eq s = in_reached eq (IsOrdered eq) ordered_kept s h in
+      let i : IsOrdered eq s = in_ordered s h in
       record {
         order = λ a b x y p e f same. before_is s.world.table.committed a b (i.order a b x y (is_before s.world.desk.opened a b p) e f same);
-        beside = λ a b x y p e f same r u.
-            ap is_some (i.beside a b x y (is_before s.world.desk.opened a b p) e f same (run_state (s.world.desk.notices a) x e r) (run_state (s.world.desk.notices b) y f u));
+        over = λ a b x y p e f same r.
+            i.over a b x y (is_before s.world.desk.opened a b p) e f same (run_state (s.world.desk.notices a) x e r);
       }
+
+  -- no two notices of equal keys run: each has the lock of its key under its number
+  pub notices_apart : ReachedNoticesAreApart K V E eq
+  notices_apart s h a b x y e f same r u =
+      let i : IsOrdered eq s = in_ordered s h in
+      one_under eq s.world.desk i.sound.sound a b x.key y.key
+      (running_under eq s i a x e (run_state (s.world.desk.notices a) x e r))
+      (running_under eq s i b y f (run_state (s.world.desk.notices b) y f u)) same
+
+  -- what a notice keeps is the lock of the key that it tells of
+  pub kept_told : KeptAreTold K V E eq
+  kept_told s n key h e =
+      let i : IsOrdered eq s = in_ordered s h in
+      let runs_on : is_running s.world.desk n ≡ true = (reached_sound eq laws s h).keeps n (ap is_some e) in
+      let there = notice_there (s.world.desk.notices n) runs_on in
+      (runs_on, (there.0, there.1, some_same (sym (i.keeps n there.0 ((in_keeping eq s h).gone n (ap is_some e)) there.1 there.2) ∙ e)))
+
+  pub locks_held : ReachedLocksAreHeld K V E eq
+  locks_held s h = record {
+    held = λ n on. lock_is_held s (in_locking eq s h) n on;
+    none = is_listening s (in_locking eq s h);
+    kept = λ n. (
+      (λ some. record { gone = ap is_some ((in_keeping eq s h).gone n some); runs = (reached_sound eq laws s h).keeps n some }),
+      λ k.
+          let there = notice_there (s.world.desk.notices n) k.runs in
+          ap is_some ((in_ordered s h).keeps n there.0 (is_none_of (s.calls n) k.gone) there.1 there.2),
+    );
+  }

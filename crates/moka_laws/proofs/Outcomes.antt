@@ -1,5 +1,5 @@
 -- What a step may make, item by item.
-use Rattle.std.specs.Option.{option_map}
+use Rattle.std.specs.Option.{option_map, option_map_or}
 use Rattle.std.proofs.Common.{append-nil, ◌<◌, ◌≡◌, ℕ, suc, Bool, true, false, cond, nat_lt, not, ◌==◌, List, [], ◌∷◌, ◌++◌, map, length, drop, take, Option, Some, None, is_some, unwrap_or, refl, sym, ap, ◌∙◌, subst, arith}
 use Rattle.std.proofs.lemmas.Bool.{eqb-true}
 use Rattle.std.proofs.lemmas.Bool.Decides.{nat_tests}
@@ -8,7 +8,7 @@ use Rattle.moka_hist.specs.State.{Call, Listed, TablePart, World, DeskPart}
 use Rattle.moka_hist.specs.Plan.{Item, Aim, Change, Removal, lists_from, look, is_disabled}
 use Rattle.moka_hist.specs.Plan as plan
 use Rattle.moka_hist.specs.Causes.{chosen_holds}
-use Rattle.moka_hist.specs.Visits.{is_seen, cause_of, gave_back, decided, is_running, is_unlocked_for, locked_by, times_at, unlocked, with_notice, without_moment, first_of, holding_with, claimed, claimed_alone, claim_of, finds, has_room, is_free_for, settlement_for, readers_without, settled_without, stamped, judged, settled_as, opened, took_told, ended_turn, invalidated_all, is_hit, registered_with, registering, candidates, struck, retired}
+use Rattle.moka_hist.specs.Visits.{is_seen, cause_of, gave_back, decided, is_keeping, is_running, is_unlocked_for, locked_by, taken_under, times_at, unlocked, with_notice, without_moment, first_of, holding_with, claimed, claimed_alone, claim_of, finds, has_room, is_free_for, settlement_for, readers_without, settled_without, stamped, judged, settled_as, opened, took_told, ended_turn, invalidated_all, is_hit, registered_with, registering, candidates, struck, retired}
 use Rattle.moka_hist.specs.Tables.{GivesKeys, answer_of, begun, by_pair, removed, taken_by, written}
 use Rattle.moka_hist.specs.Bound.{times_of, stayed, decided_by, most_undecided}
 use Rattle.moka_hist.specs.Next.{Next, goes, stays, waits, gives, asks, answers}
@@ -29,6 +29,7 @@ use Rattle.moka_hist.specs.declared.loads.Load.{Load}
 use Rattle.moka_hist.specs.declared.loads.Sought.{Sought}
 use Rattle.moka_hist.specs.declared.loads.Compute.{Compute}
 use Rattle.moka_hist.specs.declared.loads.Kind.TheVariants as kind
+use Rattle.moka_hist.specs.declared.visits.LockTaken.TheVariants as lock
 use Rattle.moka_hist.specs.declared.visits.Takes.TheVariants as takes
 use Rattle.moka_hist.specs.declared.writes.Holding.TheVariants as holding
 use Rattle.moka_hist.specs.declared.notices.NoticeState.{NoticeState}
@@ -333,10 +334,20 @@ module _ {K V E : Type 0} (eq : K → K → Bool) where
     heard rest number false e o = o.0 e
     heard rest number true e o = o.1 e
 
-    locks : (key : K) (rest : List (Item K V E)) (b : Bool) → is_unlocked_for w.desk n key ≡ b → Outcomes M w n c (plan.Lock key) rest →
-        M (on_desk w (locked_by eq w.desk n key b)) (after_lock c rest (found.LockKey b))
-    locks key rest true e o = o.0 e
-    locks key rest false e o = o.1 e
+    -- the lock is held under another number, by a live call or by a notice, and either way waited for
+    locks_under : (key : K) (rest : List (Item K V E)) (holder : ℕ) (b : Bool) → (holder == n) ≡ b → is_unlocked_for w.desk n key ≡ b → Outcomes M w n c (plan.Lock key) rest →
+        M (on_desk w (locked_by eq w.desk n key b)) (after_lock c rest (found.LockKey (cond b lock.Taken (cond (is_keeping w.desk holder) (lock.Kept holder) lock.Held))))
+    locks_under key rest holder true is e o = o.0 e
+    locks_under key rest holder false is e o = by (is_keeping w.desk holder) (o.1 e)
+      where
+        by : (kept : Bool) → M w (waits c) → M w (after_lock c rest (found.LockKey (cond kept (lock.Kept holder) lock.Held)))
+        by true m = m
+        by false m = m
+
+    locks : (key : K) (rest : List (Item K V E)) (o : Option ℕ) → w.desk.locks key ≡ o → Outcomes M w n c (plan.Lock key) rest →
+        M (on_desk w (locked_by eq w.desk n key (option_map_or (λ holder. holder == n) o true))) (after_lock c rest (found.LockKey (option_map_or (taken_under w.desk n) o lock.Taken)))
+    locks key rest None e o = o.0 (ap (λ v. option_map_or (λ holder. holder == n) v true) e)
+    locks key rest (Some holder) e o = locks_under key rest holder (holder == n) refl (ap (λ v. option_map_or (λ h. h == n) v true) e) o
 
     tells : (key : K) (old : Stored V) (cause : Option Cause) (upsert : Bool)
         (rest : List (Item K V E)) (b : Bool) →
@@ -518,7 +529,7 @@ module _ {K V E : Type 0} (eq : K → K → Bool) where
   outcomes M w n c plan.Drain rest o = drained M w n c rest w.desk.owed refl o
   outcomes M w n c (plan.Ended number) rest o = heard M w n c rest number (is_running w.desk number) refl o
   outcomes M w n c plan.Heard rest o = heard M w n c rest n (is_running w.desk n) refl o
-  outcomes M w n c (plan.Lock key) rest o = locks M w n c key rest (is_unlocked_for w.desk n key) refl o
+  outcomes M w n c (plan.Lock key) rest o = locks M w n c key rest (w.desk.locks key) refl o
   outcomes M w n c (plan.Unlock wrote) rest o = o
   outcomes M w n c (plan.Notice key old cause upsert) rest o =
       tells M w n c key old cause upsert rest w.desk.off refl o

@@ -22,6 +22,7 @@ use Rattle.moka_laws.proofs.Locking.{Locks, lock_free, lock_held}
 use Rattle.moka_laws.proofs.Outcomes.{computes_of}
 use Rattle.moka_laws.proofs.Unsettled.{IsUnsettled, owners_unsettled, unsettled_kept}
 use Rattle.moka_laws.proofs.Replacing.{IsReplacing, replacing_kept, not_opened}
+use Rattle.moka_laws.proofs.Keepers.{IsKeeping, keeping_kept, keeps_none}
 use Rattle.moka_laws.proofs.Kept.{IsInvariant, in_reached}
 use Rattle.moka_hist.specs.Visits.{moment_of, pending_of}
 use Rattle.std.specs.Option.{option_and_then}
@@ -68,6 +69,7 @@ module _ {K V E : Type 0} (eq : K → K → Bool) where
     pub asking : IsAsking s
     pub turning : IsTurning s
     pub replacing : IsReplacing s
+    pub keeping : IsKeeping s
 
   pub well_kept : IsInvariant eq IsWell
   well_kept = record {
@@ -79,6 +81,7 @@ module _ {K V E : Type 0} (eq : K → K → Bool) where
       asking = (asking_kept eq).fresh division divides rules size built has_log;
       turning = (turning_kept eq).fresh division divides rules size built has_log;
       replacing = (replacing_kept eq).fresh division divides rules size built has_log;
+      keeping = (keeping_kept eq).fresh division divides rules size built has_log;
     };
     at = λ s moment i. record {
       holding = (holding_kept eq).at s moment i.holding;
@@ -88,6 +91,7 @@ module _ {K V E : Type 0} (eq : K → K → Bool) where
       asking = (asking_kept eq).at s moment i.asking;
       turning = (turning_kept eq).at s moment i.turning;
       replacing = (replacing_kept eq).at s moment i.replacing;
+      keeping = (keeping_kept eq).at s moment i.keeping;
     };
     start = λ s start i. record {
       holding = (holding_kept eq).start s start i.holding;
@@ -97,6 +101,7 @@ module _ {K V E : Type 0} (eq : K → K → Bool) where
       asking = (asking_kept eq).start s start i.asking;
       turning = (turning_kept eq).start s start i.turning;
       replacing = (replacing_kept eq).start s start i.replacing;
+      keeping = (keeping_kept eq).start s start i.keeping;
     };
     step = λ s t n turn i step. record {
       holding = (holding_kept eq).step s t n turn i.holding step;
@@ -106,6 +111,7 @@ module _ {K V E : Type 0} (eq : K → K → Bool) where
       asking = (asking_kept eq).step s t n turn i.asking step;
       turning = (turning_kept eq).step s t n turn i.turning step;
       replacing = (replacing_kept eq).step s t n turn i.replacing step;
+      keeping = (keeping_kept eq).step s t n turn i.keeping step;
     };
     tell = λ s n given asked i. record {
       holding = (holding_kept eq).tell s n given asked i.holding;
@@ -115,6 +121,7 @@ module _ {K V E : Type 0} (eq : K → K → Bool) where
       asking = (asking_kept eq).tell s n given asked i.asking;
       turning = (turning_kept eq).tell s n given asked i.turning;
       replacing = (replacing_kept eq).tell s n given asked i.replacing;
+      keeping = (keeping_kept eq).tell s n given asked i.keeping;
     };
     hear = λ s n off running i. record {
       holding = (holding_kept eq).hear s n off running i.holding;
@@ -124,6 +131,7 @@ module _ {K V E : Type 0} (eq : K → K → Bool) where
       asking = (asking_kept eq).hear s n off running i.asking;
       turning = (turning_kept eq).hear s n off running i.turning;
       replacing = (replacing_kept eq).hear s n off running i.replacing;
+      keeping = (keeping_kept eq).hear s n off running i.keeping;
     };
     drop = λ s n c live between i. record {
       holding = (holding_kept eq).drop s n c live between i.holding;
@@ -133,6 +141,7 @@ module _ {K V E : Type 0} (eq : K → K → Bool) where
       asking = (asking_kept eq).drop s n c live between i.asking;
       turning = (turning_kept eq).drop s n c live between i.turning;
       replacing = (replacing_kept eq).drop s n c live between i.replacing;
+      keeping = (keeping_kept eq).drop s n c live between i.keeping;
     };
   }
 
@@ -156,7 +165,7 @@ module _ {K V E : Type 0} (eq : K → K → Bool) (s : State K V E) (well : IsWe
 
   may_item : (item : Item K V E) (rest : List (Item K V E)) → c.plan ≡ item ∷ rest → Stands s.world.desk n (item ∷ rest) → May_for item
   may_item plan.Drain rest e k = none_is _ k.holds.0
-  may_item (plan.Lock key) rest e k = lock_free _ (s.world.desk.locked n) key rest k.locks
+  may_item (plan.Lock key) rest e k = (lock_free _ (s.world.desk.locked n) key rest k.locks, keeps_none s well.keeping n c live)
   may_item (plan.Unlock true) rest e k =
       (lock_held _ (s.world.desk.locked n) true rest k.locks, λ not. absurd (false≢true (sym not)))
   may_item (plan.Unlock false) rest e k = (

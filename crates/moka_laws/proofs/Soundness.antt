@@ -2,17 +2,18 @@
 use Rattle.std.proofs.Common.{◌≡◌, ℕ, ◌+◌, ◌≤◌, ◌==◌, Bool, true, false, cond, List, [], ◌∷◌, ◌++◌, map, append-nil, Option, Some, None, is_some, refl, sym, ap, ◌∙◌, subst, arith, filter, not, zero, suc, ◌||◌}
 use Rattle.std.proofs.lemmas.Bool.{eqb-true, false≢true, eq-eqb}
 use Rattle.std.specs.Cmp.{IsEquivalence}
-use Rattle.std.specs.Option.{IsSomeAnd, option_map, option_map_or}
+use Rattle.std.specs.Option.{IsSomeAnd, option_map, option_map_or, option_or}
 use Rattle.moka_hist.specs.Finite.{load_eq, put_at, put_key, times}
 use Rattle.moka_hist.specs.State.{DeskPart}
-use Rattle.moka_hist.specs.Visits.{claimed_alone, cause_of, claimed, decided, gave_back, has_room, is_unlocked_for, locked_by, makes, number_of, once_decided, opened_notice, unlocked, posted, settlement_for, took_owed, without_moment, free_id, is_named, is_registered, next_free, registered_by, registered_with, retired}
+use Rattle.moka_hist.specs.Visits.{claimed_alone, cause_of, claimed, decided, gave_back, has_room, is_keeping, is_running, is_unlocked_for, key_under, locked_by, locks_without, makes, number_of, once_decided, opened_notice, unlocked, posted, settlement_for, took_owed, without_moment, free_id, is_named, is_registered, next_free, registered_by, registered_with, retired, runs}
 use Rattle.moka_hist.specs.Conditions.{held_number, numbers_of, HoldsWrite, IsPlaceOf, IsUnused}
 use Rattle.moka_hist.specs.SoundDesk.{SoundDesk}
 use Rattle.moka_hist.specs.Dropping.{left, owed_with}
-use Rattle.moka_hist.specs.Telling.{told_call, heard}
+use Rattle.moka_hist.specs.Telling.{told_call, heard, with_end}
 use Rattle.moka_hist.specs.declared.loads.Load.{Load}
 use Rattle.moka_hist.specs.declared.events.Told.{Told}
 use Rattle.moka_hist.specs.declared.events.Told.TheVariants as answer
+use Rattle.moka_hist.specs.declared.notices.Notice.{Notice}
 use Rattle.moka_hist.specs.declared.rules.Cause.{Cause}
 use Rattle.moka_hist.specs.declared.visits.Visit.TheVariants as visit
 use Rattle.moka_hist.specs.declared.writes.Holding.{Holding}
@@ -172,6 +173,33 @@ module _ {L : Type 0} (same : L → L → Bool) (owners : L → Option ℕ) (own
       by a b true false h e = absurd (false≢true (sym h))
       by a b false true h e = absurd (false≢true h)
 
+-- ---- locks: the numbers that they are held under, and those that notices keep
+
+-- what is kept is kept by a notice that runs, under a number that holds no lock
+record Keeping {K V : Type 0} (locked kept : ℕ → Option K) (notices : ℕ → Option (Notice K V)) : Type 0 where
+  keeps : (n : ℕ) → is_some (kept n) ≡ true → option_map_or (λ x. runs x.state) (notices n) false ≡ true
+  apart : (n : ℕ) → is_some (locked n) ≡ true → is_some (kept n) ≡ false
+
+record LocksWell {K V : Type 0} (eq : K → K → Bool) (locks : K → Option ℕ) (locked kept : ℕ → Option K) (notices : ℕ → Option (Notice K V)) : Type 0 where
+  one : OneToOne eq locks (λ n. option_or (locked n) (kept n))
+  keeping : Keeping locked kept notices
+
+none_under : {A : Type 0} (b : Bool) (x y : Option A) → cond b None (option_or x y) ≡ option_or (cond b None x) (cond b None y)
+none_under true x y = refl
+none_under false x y = refl
+
+more_under : {A : Type 0} (b : Bool) (a : A) (x y : Option A) → cond b (Some a) (option_or x y) ≡ option_or (cond b (Some a) x) y
+more_under true a x y = refl
+more_under false a x y = refl
+
+or_none : {A : Type 0} (x y : Option A) → y ≡ None → option_or x None ≡ option_or x y
+or_none x y e = ap (option_or x) (sym e)
+
+-- nothing is there where nothing may be
+held_by_none : {A : Type 0} (o : Option A) (kept : Bool) → (is_some o ≡ true → kept ≡ false) → kept ≡ true → o ≡ None
+held_by_none None kept apart keeps = refl
+held_by_none (Some a) kept apart keeps = absurd (false≢true (sym (apart refl) ∙ keeps))
+
 -- ---- predicates: how often an id stands among those that are registered
 
 abbrev ids_of : List Registered → List ℕ
@@ -246,7 +274,7 @@ module _ {K V E : Type 0} where
   stands w x = times x (numbers_of w)
 
   module _ (eq : K → K → Bool) where
-    both : (w : DeskPart K V E) → OneId w.registered → Apart w.holding (stands w) → OneToOne (load_eq eq) w.owners w.owning → OneToOne eq w.locks w.locked → SoundDesk eq w
+    both : (w : DeskPart K V E) → OneId w.registered → Apart w.holding (stands w) → OneToOne (load_eq eq) w.owners w.owning → LocksWell eq w.locks w.locked w.kept w.notices → SoundDesk eq w
     both w one a o k = record {
       once = a.once;
       held_apart = a.held_apart;
@@ -254,9 +282,11 @@ module _ {K V E : Type 0} where
       one_owner = o.one_owner;
       owns = o.owns;
       owned = o.owned;
-      one_locker = k.one_owner;
-      locks = k.owns;
-      locked = k.owned;
+      one_locker = k.one.one_owner;
+      locks = k.one.owns;
+      locked = k.one.owned;
+      keeps = k.keeping.keeps;
+      apart = k.keeping.apart;
       one_id = one;
     }
 
@@ -266,8 +296,108 @@ module _ {K V E : Type 0} where
     loads_in : (w : DeskPart K V E) → SoundDesk eq w → OneToOne (load_eq eq) w.owners w.owning
     loads_in w h = record { one_owner = h.one_owner; owns = h.owns; owned = h.owned }
 
-    locks_in : (w : DeskPart K V E) → SoundDesk eq w → OneToOne eq w.locks w.locked
-    locks_in w h = record { one_owner = h.one_locker; owns = h.locks; owned = h.locked }
+    locks_in : (w : DeskPart K V E) → SoundDesk eq w → LocksWell eq w.locks w.locked w.kept w.notices
+    locks_in w h = record {
+      one = record { one_owner = h.one_locker; owns = h.locks; owned = h.locked };
+      keeping = record { keeps = h.keeps; apart = h.apart };
+    }
+
+    -- a call frees its lock, whose notice keeps none
+    freed_locks : (w : DeskPart K V E) (call : ℕ) → w.kept call ≡ None → SoundDesk eq w →
+        LocksWell eq (locks_without w call) (put_at w.locked call None) w.kept w.notices
+    freed_locks w call unkept h = record {
+      one = subst (λ (f : ℕ → Option K). OneToOne eq (locks_without w call) f) (λ i n. under n (call == n) refl i)
+          (without_call eq w.locks (key_under w) call (locks_in w h).one);
+      keeping = record { keeps = h.keeps; apart = λ n is. still n (call == n) is };
+    }
+      where
+        under : (n : ℕ) (b : Bool) → (call == n) ≡ b → cond b None (key_under w n) ≡ option_or (cond b None (w.locked n)) (w.kept n)
+        under n true e = sym (ap w.kept (sym (eqb-true call n e)) ∙ unkept)
+        under n false e = refl
+
+        still : (n : ℕ) (b : Bool) → is_some (cond b None (w.locked n)) ≡ true → is_some (w.kept n) ≡ false
+        still n true is = absurd (false≢true is)
+        still n false is = h.apart n is
+
+    -- a call leaves: its notice keeps its lock where that runs
+    left_locks : (w : DeskPart K V E) (call : ℕ) → SoundDesk eq w → (b : Bool) → is_running w call ≡ b →
+        LocksWell eq (cond b w.locks (locks_without w call)) (put_at w.locked call None) (put_at w.kept call (cond b (key_under w call) None)) w.notices
+    left_locks w call h true on = record {
+      one = subst (λ (f : ℕ → Option K). OneToOne eq w.locks f) (λ i n. under n (call == n) refl i) (locks_in w h).one;
+      keeping = record { keeps = λ n is. kept n (call == n) refl is; apart = λ n is. still n (call == n) is };
+    }
+      where
+        under : (n : ℕ) (b : Bool) → (call == n) ≡ b → key_under w n ≡ option_or (cond b None (w.locked n)) (cond b (key_under w call) (w.kept n))
+        under n true e = ap (key_under w) (sym (eqb-true call n e))
+        under n false e = refl
+
+        kept : (n : ℕ) (b : Bool) → (call == n) ≡ b → is_some (cond b (key_under w call) (w.kept n)) ≡ true → is_running w n ≡ true
+        kept n true e is = ap (is_running w) (sym (eqb-true call n e)) ∙ on
+        kept n false e is = h.keeps n is
+
+        still : (n : ℕ) (b : Bool) → is_some (cond b None (w.locked n)) ≡ true → is_some (cond b (key_under w call) (w.kept n)) ≡ false
+        still n true is = absurd (false≢true is)
+        still n false is = h.apart n is
+    left_locks w call h false on = record {
+      one = subst (λ (f : ℕ → Option K). OneToOne eq (locks_without w call) f) (λ i n. none_under (call == n) (w.locked n) (w.kept n) i)
+          (without_call eq w.locks (key_under w) call (locks_in w h).one);
+      keeping = record { keeps = λ n is. kept n (call == n) is; apart = λ n is. still n (call == n) is };
+    }
+      where
+        kept : (n : ℕ) (b : Bool) → is_some (cond b None (w.kept n)) ≡ true → is_running w n ≡ true
+        kept n true is = absurd (false≢true is)
+        kept n false is = h.keeps n is
+
+        still : (n : ℕ) (b : Bool) → is_some (cond b None (w.locked n)) ≡ true → is_some (cond b None (w.kept n)) ≡ false
+        still n true is = absurd (false≢true is)
+        still n false is = h.apart n is
+
+    -- a notice ends: the lock that it kept is free
+    ended_locks : (w : DeskPart K V E) (number : ℕ) → SoundDesk eq w → (b : Bool) → is_keeping w number ≡ b →
+        LocksWell eq (cond b (locks_without w number) w.locks) w.locked (put_at w.kept number None) (put_at w.notices number (option_map with_end (w.notices number)))
+    ended_locks w number h b keeps = record {
+      one = one b keeps;
+      keeping = record { keeps = λ n is. kept n (number == n) is; apart = λ n is. still n (number == n) is };
+    }
+      where
+        free : (n : ℕ) → is_keeping w number ≡ true → (c : Bool) → (number == n) ≡ c → cond c None (key_under w n) ≡ option_or (w.locked n) (cond c None (w.kept n))
+        free n keeps true e =
+            let none : w.locked number ≡ None = held_by_none (w.locked number) (is_keeping w number) (h.apart number) keeps in
+            sym (ap (λ m. option_or (w.locked m) None) (sym (eqb-true number n e)) ∙ ap (λ o. option_or o None) none)
+        free n keeps false e = refl
+
+        same : (n : ℕ) → is_keeping w number ≡ false → (c : Bool) → (number == n) ≡ c → key_under w n ≡ option_or (w.locked n) (cond c None (w.kept n))
+        same n unkept true e = sym (or_none (w.locked n) (w.kept n) (ap w.kept (sym (eqb-true number n e)) ∙ is_none_of (w.kept number) unkept))
+        same n unkept false e = refl
+
+        one : (b : Bool) → is_keeping w number ≡ b → OneToOne eq (cond b (locks_without w number) w.locks) (λ n. option_or (w.locked n) (put_at w.kept number None n))
+        one true keeps = subst (λ (f : ℕ → Option K). OneToOne eq (locks_without w number) f) (λ i n. free n keeps (number == n) refl i)
+            (without_call eq w.locks (key_under w) number (locks_in w h).one)
+        one false unkept = subst (λ (f : ℕ → Option K). OneToOne eq w.locks f) (λ i n. same n unkept (number == n) refl i) (locks_in w h).one
+
+        kept : (n : ℕ) (c : Bool) → is_some (cond c None (w.kept n)) ≡ true →
+            option_map_or (λ x. runs x.state) (cond c (option_map with_end (w.notices number)) (w.notices n)) false ≡ true
+        kept n true is = absurd (false≢true is)
+        kept n false is = h.keeps n is
+
+        still : (n : ℕ) (c : Bool) → is_some (w.locked n) ≡ true → is_some (cond c None (w.kept n)) ≡ false
+        still n true is = refl
+        still n false is = h.apart n is
+
+    -- a notice is opened of a number that had none
+    opened_locks : (w : DeskPart K V E) (call : ℕ) (told : Notice K V) → is_some (w.notices call) ≡ false → SoundDesk eq w →
+        LocksWell eq w.locks w.locked w.kept (put_at w.notices call (Some told))
+    opened_locks w call told none h = record {
+      one = (locks_in w h).one;
+      keeping = record { keeps = λ n is. kept n (call == n) refl (h.keeps n is); apart = h.apart };
+    }
+      where
+        kept : (n : ℕ) (b : Bool) → (call == n) ≡ b → is_running w n ≡ true →
+            option_map_or (λ x. runs x.state) (cond b (Some told) (w.notices n)) false ≡ true
+        kept n true e is =
+            let no : w.notices n ≡ None = ap w.notices (sym (eqb-true call n e)) ∙ is_none_of (w.notices call) none in
+            absurd (false≢true (ap (λ (o : Option (Notice K V)). option_map_or (λ x. runs x.state) o false) (sym no) ∙ is))
+        kept n false e is = is
 
     -- ---- each visit, in the order of their conditions
 
@@ -282,6 +412,8 @@ module _ {K V E : Type 0} where
       one_locker = λ a b e. refl;
       locks = λ l n e. absurd (none_some e);
       locked = λ l n e. absurd (none_some e);
+      keeps = λ n is. absurd (false≢true is);
+      apart = λ n is. absurd (false≢true is);
       one_id = λ id. omega arith;
     }
 
@@ -368,7 +500,7 @@ module _ {K V E : Type 0} where
         both (left w call None) h.one_id
         (clears w.holding (stands w) (stands (left w call None)) call (apart_in w h)
         (λ y. ap (λ l. times y (numbers_of (record w { owed = l }))) (append-nil w.owed)))
-        (without_call (load_eq eq) w.owners w.owning call (loads_in w h)) (without_call eq w.locks w.locked call (locks_in w h))
+        (without_call (load_eq eq) w.owners w.owning call (loads_in w h)) (left_locks w call h (is_running w call) refl)
     left_sound w call (Some held) h may =
         both (left w call (Some held)) h.one_id
         (given w (left w call (Some held)) call held (w.holding call) refl may h
@@ -379,10 +511,10 @@ module _ {K V E : Type 0} where
           owed_append y w.owed (owed_with w held ∷ []),
           times_first y (number_of held) [],
         )))
-        (without_call (load_eq eq) w.owners w.owning call (loads_in w h)) (without_call eq w.locks w.locked call (locks_in w h))
+        (without_call (load_eq eq) w.owners w.owning call (loads_in w h)) (left_locks w call h (is_running w call) refl)
 
     pub heard_sound : (w : DeskPart K V E) (call : ℕ) (off : Bool) → SoundDesk eq w → SoundDesk eq (heard w call off)
-    heard_sound w call off h = both (heard w call off) h.one_id (apart_in w h) (loads_in w h) (locks_in w h)
+    heard_sound w call off h = both (heard w call off) h.one_id (apart_in w h) (loads_in w h) (ended_locks w call h (is_keeping w call) refl)
 
     pub told_call_sound : (w : DeskPart K V E) (call : ℕ) (given : Told V E) → SoundDesk eq w →
         SoundDesk eq (told_call w call given)
@@ -400,13 +532,24 @@ module _ {K V E : Type 0} where
     pub clock_sound : ClockKeepsSound K V E eq
     clock_sound w moment h = both (record w { clock = moment }) h.one_id (apart_in w h) (loads_in w h) (locks_in w h)
 
-    locked_sound : IsEquivalence eq → (w : DeskPart K V E) (call : ℕ) (key : K) → w.locked call ≡ None → (b : Bool) → is_unlocked_for w call key ≡ b → SoundDesk eq w →
+    locked_sound : IsEquivalence eq → (w : DeskPart K V E) (call : ℕ) (key : K) → w.locked call ≡ None → w.kept call ≡ None → (b : Bool) → is_unlocked_for w call key ≡ b → SoundDesk eq w →
         SoundDesk eq (locked_by eq w call key b)
-    locked_sound laws w call key idle false e h = h
-    locked_sound laws w call key idle true e h =
+    locked_sound laws w call key idle unkept false e h = h
+    locked_sound laws w call key idle unkept true e h =
         both (locked_by eq w call key true) h.one_id (apart_in w h) (loads_in w h)
-        (claims eq w.locks w.locked call key (laws.refl key) (λ a b same. keys_alike key a b same) idle (free (w.locks key) refl e) (locks_in w h))
+        (record {
+          one = subst (λ (f : ℕ → Option K). OneToOne eq (put_key eq w.locks key (Some call)) f) (λ i n. more_under (call == n) key (w.locked n) (w.kept n) i)
+              (claims eq w.locks (key_under w) call key (laws.refl key) (λ a b same. keys_alike key a b same) nothing (free (w.locks key) refl e) (locks_in w h).one);
+          keeping = record { keeps = h.keeps; apart = λ n is. still n (call == n) refl is };
+        })
       where
+        nothing : key_under w call ≡ None
+        nothing = ap (λ (o : Option K). option_or o (w.kept call)) idle ∙ unkept
+
+        still : (n : ℕ) (b : Bool) → (call == n) ≡ b → is_some (cond b (Some key) (w.locked n)) ≡ true → is_some (w.kept n) ≡ false
+        still n true e is = ap is_some (ap w.kept (sym (eqb-true call n e)) ∙ unkept)
+        still n false e is = h.apart n is
+
         keys_alike : (k a b : K) → eq a b ≡ true → eq k a ≡ eq k b
         keys_alike k a b same = laws.symm k a ∙ laws.congr a b k same ∙ laws.symm b k
 
@@ -414,7 +557,7 @@ module _ {K V E : Type 0} where
         tested : (holder : ℕ) (b : Bool) → (holder == call) ≡ b → w.locks key ≡ Some holder → b ≡ true → ⊥
         tested holder false is held ok = false≢true ok
         tested holder true is held ok =
-            let none : w.locked holder ≡ None = ap w.locked (eqb-true holder call is) ∙ idle in
+            let none : key_under w holder ≡ None = ap (key_under w) (eqb-true holder call is) ∙ nothing in
             subst (λ o. IsSomeAnd o (λ own. eq own key ≡ true)) none (h.locks key holder held)
 
         free : (o : Option ℕ) → w.locks key ≡ o → option_map_or (λ holder. holder == call) o true ≡ true → o ≡ None
@@ -433,18 +576,18 @@ module _ {K V E : Type 0} where
     once_sound w call true h = decided_sound w call h
     once_sound w call false h = gave_sound w call h
 
-    unlocked_sound : (w : DeskPart K V E) (call : ℕ) (wrote : Bool) → SoundDesk eq w → SoundDesk eq
+    unlocked_sound : (w : DeskPart K V E) (call : ℕ) (wrote : Bool) → is_some (w.locked call) ≡ true → SoundDesk eq w → SoundDesk eq
         (unlocked w call wrote)
-    unlocked_sound w call wrote h =
+    unlocked_sound w call wrote locked h =
         let d = once_sound w call wrote h in
         both (unlocked w call wrote) h.one_id (apart_in (once_decided w call wrote) d)
         (loads_in (once_decided w call wrote) d)
-        (without_call eq w.locks w.locked call (locks_in w h))
+        (freed_locks w call (is_none_of (w.kept call) (h.apart call locked)) h)
 
-    opened_sound : (w : DeskPart K V E) (call : ℕ) (key : K) (value : V) (cause : Cause) → SoundDesk eq w → SoundDesk eq (opened_notice w call key value cause)
-    opened_sound w call key value cause h =
+    opened_sound : (w : DeskPart K V E) (call : ℕ) (key : K) (value : V) (cause : Cause) → is_some (w.notices call) ≡ false → SoundDesk eq w → SoundDesk eq (opened_notice w call key value cause)
+    opened_sound w call key value cause none h =
         let d = decided_sound w call h in
-        both (opened_notice w call key value cause) h.one_id (apart_in (decided w call) d) (loads_in (decided w call) d) (locks_in (decided w call) d)
+        both (opened_notice w call key value cause) h.one_id (apart_in (decided w call) d) (loads_in (decided w call) d) (opened_locks w call _ none h)
 
     -- a predicate is registered under an id that none has
     registered_sound : (w : DeskPart K V E) (test : ℕ) → SoundDesk eq w → SoundDesk eq (registered_with w test)
@@ -462,10 +605,10 @@ module _ {K V E : Type 0} where
     visit_sound laws w (visit.TakeOwed call) h may = took_sound w call (is_none_of (w.holding call) may) h
     visit_sound laws w (visit.NoticeEnded call number) h may = h
     visit_sound laws w (visit.LockKey call key) h may =
-        locked_sound laws w call key (is_none_of (w.locked call) may) (is_unlocked_for w call key) refl h
-    visit_sound laws w (visit.UnlockKey call wrote) h may = unlocked_sound w call wrote h
+        locked_sound laws w call key (is_none_of (w.locked call) may.0) (is_none_of (w.kept call) may.1) (is_unlocked_for w call key) refl h
+    visit_sound laws w (visit.UnlockKey call wrote) h may = unlocked_sound w call wrote may.0 h
     visit_sound laws w (visit.OpenNotice call key value stamp modified cause upsert) h may =
-        opened_sound w call key value (cause_of w stamp modified cause upsert) h
+        opened_sound w call key value (cause_of w stamp modified cause upsert) may h
     visit_sound laws w (visit.StampMoment call) h may = stamped_sound w call (is_none_of (w.holding call) may.0) may.1 h
     visit_sound laws w (visit.Holds key stored cause) h may = h
     visit_sound laws w (visit.WaitOrOwn call key kind) h may =

@@ -207,7 +207,7 @@ module _ {K V E : Type 0} (eq : K → K → Bool) where
       by false = refl
   visit_last d _ = refl
 
-  access_last : (n : ℕ) (w new : World K V E) (a : Access K V E) (g : Got K V E) →
+  pub access_last : (n : ℕ) (w new : World K V E) (a : Access K V E) (g : Got K V E) →
       Gets eq n w a g new → new.desk.last ≡ w.desk.last
   access_last n w new (On_table o) (got.Table table.Going) gets =
       ap (λ (v : World K V E). v.desk.last) gets.1

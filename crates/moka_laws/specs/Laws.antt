@@ -14,7 +14,7 @@ use Rattle.moka_laws.specs.Lawful.{StepsAreLawful}
 use Rattle.moka_laws.specs.Leaving.{NoticesAsk, RemovalsNameOld, ReplacedAreTold, TakenAreTold}
 use Rattle.moka_laws.specs.Leaving.{UpsertsNameOld}
 use Rattle.moka_laws.specs.Listening.{AsksAreLive, AsksAreOne, KeysAreLocked, LocksAreOne}
-use Rattle.moka_laws.specs.Listening.{OffWasTold, ReachedLocksAreHeld, ReachedNoticesAreInOrder}
+use Rattle.moka_laws.specs.Listening.{KeptAreTold, OffWasTold, ReachedLocksAreHeld, ReachedNoticesAreApart, ReachedNoticesAreInOrder}
 use Rattle.moka_laws.specs.Listening.{ReachedNoticesAreSettled, RunningAreHeard}
 use Rattle.moka_laws.specs.Loads.{AbortsAreCounted, AnswersFit, ErrorByCause, ExhaustedAtLast}
 use Rattle.moka_laws.specs.Loads.{NothingByCause, OpenedByOwners, OwnEndsAreTold}
@@ -155,8 +155,10 @@ pub record LawsOfReached (K V E : Type 0) (eq : K → K → Bool) : Type 0 where
   pub notices_are_settled : ReachedNoticesAreSettled K V E eq
   pub locks_are_held : ReachedLocksAreHeld K V E eq
   pub keys_are_locked : KeysAreLocked K V E eq
+  pub keys_are_locked-kept : KeptAreTold K V E eq
   pub locks_are_one : LocksAreOne K V E eq
   pub notices_are_in_order : ReachedNoticesAreInOrder K V E eq
+  pub notices_are_apart : ReachedNoticesAreApart K V E eq
   pub asks_are_one : AsksAreOne K V E eq
   pub notices_tell_left-replaced : ReplacedAreTold K V E eq
   pub notices_tell_left-taken : TakenAreTold K V E eq

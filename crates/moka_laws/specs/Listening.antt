@@ -3,13 +3,14 @@ use Rattle.std.specs.Prelude.{◌≡◌, ◌≢◌, ◌⊎◌, ℕ, Bool, true, 
 use Rattle.moka_hist.specs.State.{Call, State}
 use Rattle.moka_hist.specs.Plan.{Aim, Change, Item, hearing}
 use Rattle.moka_hist.specs.Plan as plan
-use Rattle.moka_hist.specs.Notices.{LocksAreHeld, NoticesAreInOrder, NoticesAreSettled}
+use Rattle.moka_hist.specs.Notices.{LocksAreHeld, NoticesAreApart, NoticesAreInOrder, NoticesAreSettled}
 use Rattle.moka_hist.specs.Places.{Initializes}
 use Rattle.moka_hist.specs.Run.{Any, Happens, IsReached}
-use Rattle.moka_hist.specs.Visits.{is_running}
+use Rattle.moka_hist.specs.Visits.{is_running, key_under}
 use Rattle.moka_hist.specs.declared.events.Event.TheVariants as event
 use Rattle.moka_hist.specs.declared.events.Told.TheVariants as told
 use Rattle.moka_hist.specs.declared.loads.Load.{Load}
+use Rattle.moka_hist.specs.declared.notices.Notice.{Notice}
 use Rattle.moka_hist.specs.declared.replies.Reply.TheVariants as reply
 use Rattle.moka_laws.specs.Starting.{Leads}
 
@@ -18,7 +19,8 @@ use Rattle.moka_laws.specs.Starting.{Leads}
 abbrev pub ReachedNoticesAreSettled : (K V E : Type 0) → (K → K → Bool) → Type 0
 ReachedNoticesAreSettled K V E eq = (s : State K V E) → IsReached eq s → NoticesAreSettled s
 
--- in every reached state those calls hold locks that are between their locking and their freeing
+-- in every reached state those calls hold locks that are between their locking and their freeing,
+-- and those notices keep one that run though their calls were dropped
 abbrev pub ReachedLocksAreHeld : (K V E : Type 0) → (K → K → Bool) → Type 0
 ReachedLocksAreHeld K V E eq = (s : State K V E) → IsReached eq s → LocksAreHeld s
 
@@ -87,15 +89,27 @@ KeysAreLocked K V E eq =
     s.world.desk.rules.listener ≡ true → s.calls n ≡ Some c → locked_key c.plan ≡ Some key →
     s.world.desk.locked n ≡ Some key
 
--- in every reached state no two calls hold locks of equal keys
+-- in every reached state a notice that keeps a lock runs, and tells of the key of that lock
+abbrev pub KeptAreTold : (K V E : Type 0) → (K → K → Bool) → Type 0
+KeptAreTold K V E eq =
+    (s : State K V E) (n : ℕ) (key : K) → IsReached eq s → s.world.desk.kept n ≡ Some key →
+    (is_running s.world.desk n ≡ true)
+    × ((x : Notice K V) × (s.world.desk.notices n ≡ Some x) × (x.key ≡ key))
+
+-- in every reached state locks of equal keys are held under one number: no two calls hold them, no
+-- two notices keep them, and no notice keeps one that a call holds
 abbrev pub LocksAreOne : (K V E : Type 0) → (K → K → Bool) → Type 0
 LocksAreOne K V E eq =
-    (s : State K V E) (n m : ℕ) (a b : K) → IsReached eq s → s.world.desk.locked n ≡ Some a →
-    s.world.desk.locked m ≡ Some b → eq a b ≡ true → n ≡ m
+    (s : State K V E) (n m : ℕ) (a b : K) → IsReached eq s → key_under s.world.desk n ≡ Some a →
+    key_under s.world.desk m ≡ Some b → eq a b ≡ true → n ≡ m
 
 -- in every reached state the notices of a key stand in the order of its writes
 abbrev pub ReachedNoticesAreInOrder : (K V E : Type 0) → (K → K → Bool) → Type 0
 ReachedNoticesAreInOrder K V E eq = (s : State K V E) → IsReached eq s → NoticesAreInOrder eq s
+
+-- in every reached state no two notices of equal keys run
+abbrev pub ReachedNoticesAreApart : (K V E : Type 0) → (K → K → Bool) → Type 0
+ReachedNoticesAreApart K V E eq = (s : State K V E) → IsReached eq s → NoticesAreApart eq s
 
 -- in every reached state no number has two open asks: a call's own, and the listener's
 abbrev pub AsksAreOne : (K V E : Type 0) → (K → K → Bool) → Type 0

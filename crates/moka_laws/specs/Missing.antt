@@ -51,9 +51,9 @@ module _ {K V E : Type 0} where
 
   -- What the item may miss can still come: from the call that has the turn, which applies the log;
   -- from the owner, which owns an equal load; from the call that holds the key's lock, which is
-  -- live and frees it; as the answer to the own ask, which is open; or as the listener's answer to
-  -- the own notice or to that of an owed write, which it would take. Other
-  -- items miss nothing.
+  -- live and frees it, or from the notice that keeps that lock, which runs, and whose end would be
+  -- taken; as the answer to the own ask, which is open; or as the listener's answer to the own
+  -- notice or to that of an owed write, which it would take. Other items miss nothing.
   abbrev pub CanCome : (K → K → Bool) → State K V E → ℕ → Item K V E → Type 0
   CanCome eq s n plan.Turn = (holder : ℕ) × (s.world.desk.turn ≡ Some holder) × AppliesLog s holder
   CanCome eq s n (plan.Read sought) =
@@ -64,7 +64,9 @@ module _ {K V E : Type 0} where
       OwnsAlike eq s owner (record { key = compute.key; kind = kind.Compute })
   CanCome eq s n (plan.Told_op compute found) = IsSome (s.world.desk.asks n)
   CanCome eq s n (plan.Lock key) =
-      (holder : ℕ) × (s.world.desk.locks key ≡ Some holder) × HoldsLock s holder
+      (holder : ℕ) × (s.world.desk.locks key ≡ Some holder)
+      × (HoldsLock s holder
+      ⊎ (IsSome (s.world.desk.kept holder) × (is_asked s.world.desk holder told.Done ≡ true)))
   CanCome eq s n plan.Heard = is_asked s.world.desk n told.Done ≡ true
   CanCome eq s n (plan.Ended number) = is_asked s.world.desk number told.Done ≡ true
   CanCome eq s n _ = ⊥

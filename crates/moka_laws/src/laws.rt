@@ -93,6 +93,7 @@ pub fn laws_of_reached<K: Eq, V, E>()
     crate::keys_are_locked::<K, V, E>();
     crate::locks_are_one::<K, V, E>();
     crate::notices_are_in_order::<K, V, E>();
+    crate::notices_are_apart::<K, V, E>();
     crate::asks_are_one::<K, V, E>();
     crate::notices_tell_left::<K, V, E>();
     crate::asks_are_live::<K, V, E>();

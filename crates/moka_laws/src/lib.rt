@@ -61,6 +61,7 @@ pub use listening::asks_are_one;
 pub use listening::keys_are_locked;
 pub use listening::locks_are_held;
 pub use listening::locks_are_one;
+pub use listening::notices_are_apart;
 pub use listening::notices_are_in_order;
 pub use listening::notices_are_settled;
 pub use listening::notices_tell_left;

@@ -1,7 +1,7 @@
 //! Key locks, notices and open asks.
 
 ghost use Rattle.moka_laws.specs.Leaving.{NoticesAsk, ReplacedAreTold, TakenAreTold};
-ghost use Rattle.moka_laws.specs.Listening.{AsksAreLive, AsksAreOne, KeysAreLocked, LocksAreOne, OffWasTold, ReachedLocksAreHeld, ReachedNoticesAreInOrder, ReachedNoticesAreSettled, RunningAreHeard};
+ghost use Rattle.moka_laws.specs.Listening.{AsksAreLive, AsksAreOne, KeptAreTold, KeysAreLocked, LocksAreOne, OffWasTold, ReachedLocksAreHeld, ReachedNoticesAreApart, ReachedNoticesAreInOrder, ReachedNoticesAreSettled, RunningAreHeard};
 
 /// In every reached state under a listener each committed write that replaced a record has one
 /// notice, due or opened, and there is no other notice. None was skipped before the listener was
@@ -11,26 +11,35 @@ pub fn notices_are_settled<K: Eq, V, E>()
 {}
 
 /// In every reached state a live call holds a key's lock exactly between its locking and its
-/// freeing. Without a listener no call does.
+/// freeing. Without a listener no call does. A number keeps a lock exactly where its call was
+/// dropped there while its notice ran, as long as that still runs.
 pub fn locks_are_held<K: Eq, V, E>()
     ensures held { ReachedLocksAreHeld K V E K.eq }
 {}
 
 /// In every reached state under a listener a live call writes, takes out, looks up for that, and
-/// tells the listener of no key but the one whose lock it holds.
+/// tells the listener of no key but the one whose lock it holds. A notice that keeps a lock runs,
+/// and tells of the key of that lock.
 pub fn keys_are_locked<K: Eq, V, E>()
     ensures locked { KeysAreLocked K V E K.eq }
+    ensures kept { KeptAreTold K V E K.eq }
 {}
 
-/// In every reached state no two calls hold locks of equal keys.
+/// In every reached state locks of equal keys are held under one number: by a live call, or by the
+/// running notice of a dropped one.
 pub fn locks_are_one<K: Eq, V, E>()
     ensures one { LocksAreOne K V E K.eq }
 {}
 
-/// In every reached state the notices of a key were opened in the order of its writes. A notice
-/// runs beside an earlier one only if the call of the earlier one is gone.
+/// In every reached state the notices of a key were opened in the order of its writes. The earlier
+/// one had ended, or was skipped, when the later one was opened.
 pub fn notices_are_in_order<K: Eq, V, E>()
     ensures ordered { ReachedNoticesAreInOrder K V E K.eq }
+{}
+
+/// In every reached state no two notices of equal keys run.
+pub fn notices_are_apart<K: Eq, V, E>()
+    ensures apart { ReachedNoticesAreApart K V E K.eq }
 {}
 
 /// In every reached state no number has two open asks: while a call's own ask is open, no notice of

@@ -15,7 +15,8 @@ pub fn waiters_have_owners<K: Eq, V, E>()
 {}
 
 /// In every reached state what a live call waits for can still come: the call that has the turn and
-/// the owner are live, and its own ask is open.
+/// the owner are live, and its own ask is open. A key's lock is held by a live call, or kept by a
+/// running notice whose end would be taken.
 pub fn missing_can_come<K: Eq, V, E>()
     ensures comes { MissingCanCome K V E K.eq }
 {}

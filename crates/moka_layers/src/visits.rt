@@ -388,8 +388,8 @@ fn lock_key<K: Eq + Hash + Exact, V: Exact, E: Exact, S: BuildHasher + Drop>(
     ensures err { OnErr result (DeskStays K.eq desk.old desk.new) }
     ensures kept { KeepsAsBefore desk.old desk.new }
 {
-    let locked = desk.lock_key(call, &key)?;
-    Ok(Found::LockKey(locked))
+    let taken = desk.lock_key(call, &key)?;
+    Ok(Found::LockKey(taken))
 }
 
 #[inline(always)]

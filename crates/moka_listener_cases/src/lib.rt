@@ -11,3 +11,5 @@ mod keeping;
 mod leaving;
 #[cfg(test)]
 mod listening;
+#[cfg(test)]
+mod meeting;

@@ -1,14 +1,15 @@
 -- The place of the newest call, beside those of the others.
-use Rattle.std.proofs.Common.{◌≡◌, ◌≢◌, ◌<◌, ◌==◌, ◌++◌, ℕ, Bool, true, false, cond, List, [], ◌∷◌, Option, Some, None, IsSome, OnSome, is_some, nat_eq, refl, sym, ap, subst, ◌∙◌, append_assoc, arith, option_to_list}
-use Rattle.std.specs.List.{IsDistinct, AllByRecursion, filter_map, cons_option}
+use Rattle.std.proofs.Common.{◌≡◌, ◌≢◌, ◌<◌, ◌==◌, ◌++◌, ℕ, Bool, true, false, not, cond, List, [], ◌∷◌, Option, Some, None, IsSome, OnSome, nat_eq, refl, sym, ap, subst, ◌∙◌, append_assoc, append-nil, arith, option_to_list}
+use Rattle.std.specs.List.{IsDistinct, AllByRecursion, filter, filter_map, cons_option}
 use Rattle.std.specs.Map.{lookup, keys_of, values_of}
 use Rattle.std.specs.Option.{option_and_then, option_map}
-use Rattle.std.proofs.lemmas.Bool.{eqb-true, false≢true}
+use Rattle.std.proofs.lemmas.Bool.{eqb-true, eqb-false}
+use Rattle.std.proofs.lemmas.Map.Made.{IsDistinct-keys_filter}
 use Rattle.moka_hist.specs.State.{Call}
 use Rattle.moka_hist.specs.declared.visits.Visit.{Visit}
-use Rattle.moka_desk.proofs.WhoHolds.{flip, same_number}
+use Rattle.moka_desk.proofs.WhoHolds.{flip, others_hold, same_number}
 use Rattle.moka_machine.specs.declared.call_places.Running.{Running}
-use Rattle.moka_machine.specs.Calls.{AreDue, AreNumbered, due_in, emptied, held_in, put_some, runs_in}
+use Rattle.moka_machine.specs.Calls.{AreDue, AreNumbered, due_in, emptied, held_in, of_others, runs_in}
 use Rattle.moka_machine.specs.Listed.{AreHeld}
 use Rattle.moka_machine.specs.Machine.{call_in}
 use Rattle.moka_machine.proofs.LiveCalls.{live_due, live_hold}
@@ -47,6 +48,15 @@ module _ {A : Type 0} where
   set_newest last call n place newest before is =
       subst (λ (m : ℕ). cond (m == n) place before ≡ cond (call == n) place (cond (m == n) newest before)) is (set_over (call == n) place newest before)
 
+  -- the newest place is set, and the others stay
+  pub set_latest : (last call n : ℕ) (place newest before old : A) → last ≡ call → (n ≢ call → cond (last == n) newest before ≡ old)
+      → cond (last == n) place before ≡ cond (call == n) place old
+  set_latest last call n place newest before old is others = ap (λ (m : ℕ). cond (m == n) place before) is ∙ by (call == n) refl
+    where
+      by : (b : Bool) → (call == n) ≡ b → cond b place before ≡ cond b place old
+      by true e = refl
+      by false e = sym (ap (λ b. cond b newest before) (ap (λ (m : ℕ). m == n) is ∙ e)) ∙ others (λ h. eqb-false call n e (sym h))
+
   -- what the newest call has, and another
   pub newest_has : (last call : ℕ) (newest other : A) → call ≡ last → cond (last == call) newest other ≡ newest
   newest_has last call newest other is = subst (λ (m : ℕ). cond (m == call) newest other ≡ newest) is (ap (λ b. cond b newest other) (same_number call))
@@ -58,58 +68,16 @@ module _ {A : Type 0} where
       by true e = absurd (apart (sym (eqb-true last call e)))
       by false e = refl
 
+-- one more was listed, if there was one
+pub one_more : {A B : Type 0} (f : B → Option A) (so_far : List A) (x : B) (rest : List B) (now all : List A) → now ≡ so_far ++ option_to_list (f x)
+    → so_far ++ filter_map f (x ∷ rest) ≡ all → now ++ filter_map f rest ≡ all
+one_more {A} f so_far x rest now all is e = ap (λ v. v ++ filter_map f rest) is ∙ by (f x) ∙ e
+  where
+    by : (o : Option A) → (so_far ++ option_to_list o) ++ filter_map f rest ≡ so_far ++ cons_option o (filter_map f rest)
+    by None = ap (λ v. v ++ filter_map f rest) (append-nil so_far)
+    by (Some a) = append_assoc so_far (a ∷ []) (filter_map f rest)
+
 module _ {K V E : Type 0} where
-  -- no call of these places has the number, or a later one
-  abbrev Before : ℕ → Option (Option (Running K V E)) → ℕ → Type 0
-  Before last place n = is_some place ≡ true → n < last
-
-  -- the newest call goes among the others, where a later one comes
-  pub gone_on : (last call n : ℕ) (newest before : Option (Option (Running K V E))) → last < call → Before last before n
-      → cond (call == n) None (put_some newest (last == n) before) ≡ cond (last == n) newest before
-  gone_on last call n newest before less below = by (call == n) refl (last == n) refl newest before below
-    where
-      by : (a : Bool) → (call == n) ≡ a → (b : Bool) → (last == n) ≡ b → (x y : Option (Option (Running K V E))) → Before last y n
-          → cond a None (put_some x b y) ≡ cond b x y
-      by true e true f x y g = let c = eqb-true call n e in let l = eqb-true last n f in absurd (omega (arith, less, c, l))
-      by true e false f x None g = refl
-      by true e false f x (Some y) g = let c = eqb-true call n e in let m = g refl in absurd (omega (arith, less, c, m))
-      by false e true f None None g = refl
-      by false e true f None (Some y) g = let l = eqb-true last n f in let m = g refl in absurd (omega (arith, l, m))
-      by false e true f (Some x) y g = refl
-      by false e false f None y g = refl
-      by false e false f (Some x) y g = refl
-
-  pub gone_before : (last call n : ℕ) (newest before : Option (Option (Running K V E))) → last < call → Before last before n
-      → is_some (put_some newest (last == n) before) ≡ true → n < call
-  gone_before last call n newest before less below = by newest (last == n) refl
-    where
-      by : (x : Option (Option (Running K V E))) → (b : Bool) → (last == n) ≡ b → is_some (put_some x b before) ≡ true → n < call
-      by None b e is = let m = below is in omega (arith, m, less)
-      by (Some x) true e is = let l = eqb-true last n e in omega (arith, l, less)
-      by (Some x) false e is = let m = below is in omega (arith, m, less)
-
-  pub put_before : (last call n : ℕ) (place : Option (Running K V E)) (before : Option (Option (Running K V E))) → call < last → Before last before n
-      → is_some (cond (call == n) (Some place) before) ≡ true → n < last
-  put_before last call n place before less below = by (call == n) refl
-    where
-      by : (b : Bool) → (call == n) ≡ b → is_some (cond b (Some place) before) ≡ true → n < last
-      by true e is = let c = eqb-true call n e in omega (arith, c, less)
-      by false e is = below is
-
-  -- a place that is set in another's has that one's number
-  pub kept_before : (last call n : ℕ) (place there before : Option (Option (Running K V E))) → (is_some place ≡ true → is_some there ≡ true)
-      → Before last there call → Before last before n → is_some (cond (call == n) place before) ≡ true → n < last
-  kept_before last call n place there before keeps at below = by (call == n) refl
-    where
-      by : (b : Bool) → (call == n) ≡ b → is_some (cond b place before) ≡ true → n < last
-      by true e is = let c = eqb-true call n e in let m = at (keeps is) in omega (arith, c, m)
-      by false e is = below is
-
-  -- where a call was taken out its place is left
-  pub still_some : (place : Option (Option (Running K V E))) → is_some (emptied place) ≡ true → is_some place ≡ true
-  still_some None is = is
-  still_some (Some running) is = refl
-
   pub left_some : (place left : Option (Option (Running K V E))) (out : Option (Running K V E)) → out ≡ runs_in place → left ≡ emptied place → OnSome out (IsSome left)
   left_some place left out is are = subst (λ (o : Option (Running K V E)). OnSome o (IsSome left)) (sym is) (subst (λ (l : Option (Option (Running K V E))). OnSome (runs_in place) (IsSome l)) (sym are) (by place))
     where
@@ -118,82 +86,44 @@ module _ {K V E : Type 0} where
       by (Some None) = tt
       by (Some (Some r)) = refl
 
-  pub gone_still : (last call n : ℕ) (before : Option (Option (Running K V E))) → Before last before n → is_some (cond (call == n) None before) ≡ true → n < last
-  gone_still last call n before below = by (call == n)
-    where
-      by : (b : Bool) → is_some (cond b None before) ≡ true → n < last
-      by true is = absurd (false≢true is)
-      by false is = below is
-
   -- ---- the lists of calls
 
-  -- the places of the others, after that of the newest call, if it has one
+  -- the places but that of this number
+  abbrev others : ℕ → List (ℕ × Option (Running K V E)) → List (ℕ × Option (Running K V E))
+  others last es = filter (λ e. not (e.0 == last)) es
+
+  -- these places, after that of the newest call, if it has one
   abbrev with_newest : ℕ → Option (Option (Running K V E)) → List (ℕ × Option (Running K V E)) → List (ℕ × Option (Running K V E))
   with_newest last None es = es
   with_newest last (Some place) es = (last, place) ∷ es
 
-  abbrev AllBefore : ℕ → List (ℕ × Option (Running K V E)) → Type 0
-  AllBefore last es = (n : ℕ) → Before last (lookup (nat_eq n) es) n
-
-  placed : (last : ℕ) (newest : Option (Option (Running K V E))) (es : List (ℕ × Option (Running K V E))) → AllBefore last es → (n : ℕ)
-      → lookup (nat_eq n) (with_newest last newest es) ≡ cond (last == n) newest (lookup (nat_eq n) es)
-  placed last None es below n = by (last == n) refl (lookup (nat_eq n) es) (below n)
+  placed : (last : ℕ) (newest : Option (Option (Running K V E))) (es : List (ℕ × Option (Running K V E))) (n : ℕ)
+      → lookup (nat_eq n) (with_newest last newest (others last es)) ≡ cond (last == n) newest (lookup (nat_eq n) es)
+  placed last None es n = others_hold last n es
+  placed last (Some place) es n =
+      ap (λ o. cond (nat_eq n last) (Some place) o) (others_hold last n es)
+      ∙ ap (λ b. cond b (Some place) (cond (last == n) None (lookup (nat_eq n) es))) (flip n last)
+      ∙ by (last == n)
     where
-      by : (b : Bool) → (last == n) ≡ b → (o : Option (Option (Running K V E))) → Before last o n → o ≡ cond b None o
-      by true e None g = refl
-      by true e (Some x) g = let l = eqb-true last n e in let m = g refl in absurd (omega (arith, l, m))
-      by false e o g = refl
-  placed last (Some place) es below n = ap (λ b. cond b (Some place) (lookup (nat_eq n) es)) (flip n last)
-
-  below_tail : (last k : ℕ) (p : Option (Running K V E)) (es : List (ℕ × Option (Running K V E))) → AllBefore last ((k, p) ∷ es) → AllBefore last es
-  below_tail last k p es below n is = below n (by (nat_eq n k))
-    where
-      by : (b : Bool) → is_some (cond b (Some p) (lookup (nat_eq n) es)) ≡ true
+      by : (b : Bool) → cond b (Some place) (cond b None (lookup (nat_eq n) es)) ≡ cond b (Some place) (lookup (nat_eq n) es)
       by true = refl
-      by false = is
+      by false = refl
 
-  others_apart : (last : ℕ) (es : List (ℕ × Option (Running K V E))) → AllBefore last es → AllByRecursion (λ y. nat_eq last y ≡ false) (keys_of es)
-  others_apart last [] below = tt
-  others_apart last ((k, p) ∷ es) below = (by (nat_eq last k) refl, others_apart last es (below_tail last k p es below))
+  newest_apart : (last : ℕ) (es : List (ℕ × Option (Running K V E))) → AllByRecursion (λ y. nat_eq last y ≡ false) (keys_of (others last es))
+  newest_apart last [] = tt
+  newest_apart last (e ∷ es) = by (e.0 == last) refl (newest_apart last es)
     where
-      itself : is_some (cond (nat_eq k k) (Some p) (lookup (nat_eq k) es)) ≡ true
-      itself = ap (λ b. is_some (cond b (Some p) (lookup (nat_eq k) es))) (same_number k)
+      by : (b : Bool) → (e.0 == last) ≡ b → AllByRecursion (λ y. nat_eq last y ≡ false) (keys_of (others last es))
+          → AllByRecursion (λ y. nat_eq last y ≡ false) (keys_of (cond (not b) (e ∷ others last es) (others last es)))
+      by true is apart = apart
+      by false is apart = (flip last e.0 ∙ is, apart)
 
-      by : (b : Bool) → nat_eq last k ≡ b → b ≡ false
-      by true e = let l = eqb-true last k e in let m = below k itself in absurd (omega (arith, l, m))
-      by false e = refl
-
-  all_apart : (last : ℕ) (newest : Option (Option (Running K V E))) (es : List (ℕ × Option (Running K V E))) → IsDistinct nat_eq (keys_of es) → AllBefore last es
-      → IsDistinct nat_eq (keys_of (with_newest last newest es))
+  all_apart : (last : ℕ) (newest : Option (Option (Running K V E))) (es : List (ℕ × Option (Running K V E))) → IsDistinct nat_eq (keys_of es)
+      → IsDistinct nat_eq (keys_of (with_newest last newest (others last es)))
   unfolding IsDistinct
-  all_apart last None es unique below = unique
-  all_apart last (Some place) es unique below = (others_apart last es below, unique)
-
-  first_held : (last : ℕ) (newest : Option (Option (Running K V E))) (es : List (ℕ × Option (Running K V E)))
-      → option_to_list (option_and_then held_in newest) ++ filter_map held_in (values_of es) ≡ filter_map held_in (values_of (with_newest last newest es))
-  first_held last None es = refl
-  first_held last (Some place) es = by (held_in place)
-    where
-      by : (o : Option ℕ) → option_to_list o ++ filter_map held_in (values_of es) ≡ cons_option o (filter_map held_in (values_of es))
-      by None = refl
-      by (Some n) = refl
-
-  first_due : (last : ℕ) (newest : Option (Option (Running K V E))) (es : List (ℕ × Option (Running K V E)))
-      → option_to_list (option_and_then due_in newest) ++ filter_map due_in (values_of es) ≡ filter_map due_in (values_of (with_newest last newest es))
-  first_due last None es = refl
-  first_due last (Some place) es = by (due_in place)
-    where
-      by : (o : Option (Visit K V E)) → option_to_list o ++ filter_map due_in (values_of es) ≡ cons_option o (filter_map due_in (values_of es))
-      by None = refl
-      by (Some visit) = refl
-
-  -- one more visit was listed
-  pub one_more_due : (visits : List (Visit K V E)) (place : Option (Running K V E)) (rest : List (Option (Running K V E))) (visit : Visit K V E) (all : List (Visit K V E))
-      → due_in place ≡ Some visit → visits ++ filter_map due_in (place ∷ rest) ≡ all → (visits ++ visit ∷ []) ++ filter_map due_in rest ≡ all
-  one_more_due visits place rest visit all is e =
-      append_assoc visits (visit ∷ []) (filter_map due_in rest)
-      ∙ ap (λ o. visits ++ cons_option o (filter_map due_in rest)) (sym is)
-      ∙ e
+  all_apart last None es unique = IsDistinct-keys_filter nat_eq (λ (e : ℕ × Option (Running K V E)). not (e.0 == last)) es unique
+  all_apart last (Some place) es unique =
+      (newest_apart last es, IsDistinct-keys_filter nat_eq (λ (e : ℕ × Option (Running K V E)). not (e.0 == last)) es unique)
 
   same_held : (numbers : List ℕ) (f g : ℕ → Option (Call K V E)) → ((n : ℕ) → f n ≡ g n) → AreHeld numbers f → AreHeld numbers g
   same_held numbers f g same h =
@@ -203,22 +133,48 @@ module _ {K V E : Type 0} where
   same_due visits f g same h =
       record { calls = h.calls; lists = record { distinct = h.lists.distinct; same = λ q. h.lists.same q ∙ same q }; are = h.are }
 
+-- what all places tell, by that of the newest call and those of the others
+module _ {K V E A : Type 0} (tells : Option (Running K V E) → Option A) where
+  tell_others : (last : ℕ) (es : List (ℕ × Option (Running K V E))) → filter_map (of_others last tells) es ≡ filter_map tells (values_of (others last es))
+  tell_others last [] = refl
+  tell_others last (e ∷ es) = by (e.0 == last) (tell_others last es)
+    where
+      by : (b : Bool) → filter_map (of_others last tells) es ≡ filter_map tells (values_of (others last es))
+          → cons_option (cond b None (tells e.1)) (filter_map (of_others last tells) es) ≡ filter_map tells (values_of (cond (not b) (e ∷ others last es) (others last es)))
+      by true same = same
+      by false same = ap (cons_option (tells e.1)) same
+
+  tell_first : (last : ℕ) (newest : Option (Option (Running K V E))) (es : List (ℕ × Option (Running K V E)))
+      → option_to_list (option_and_then tells newest) ++ filter_map tells (values_of es) ≡ filter_map tells (values_of (with_newest last newest es))
+  tell_first last None es = refl
+  tell_first last (Some place) es = by (tells place)
+    where
+      by : (o : Option A) → option_to_list o ++ filter_map tells (values_of es) ≡ cons_option o (filter_map tells (values_of es))
+      by None = refl
+      by (Some a) = refl
+
+  tell_all : (last : ℕ) (newest : Option (Option (Running K V E))) (es : List (ℕ × Option (Running K V E)))
+      → option_to_list (option_and_then tells newest) ++ filter_map (of_others last tells) es ≡ filter_map tells (values_of (with_newest last newest (others last es)))
+  tell_all last newest es =
+      ap (λ xs. option_to_list (option_and_then tells newest) ++ xs) (tell_others last es) ∙ tell_first last newest (others last es)
+
+module _ {K V E : Type 0} where
   -- the numbers that all calls hold
-  pub all_hold : (last : ℕ) (newest : Option (Option (Running K V E))) (es : List (ℕ × Option (Running K V E))) → IsDistinct nat_eq (keys_of es) → AllBefore last es
-      → (numbers : List ℕ) → numbers ≡ option_to_list (option_and_then held_in newest) ++ filter_map held_in (values_of es)
+  pub all_hold : (last : ℕ) (newest : Option (Option (Running K V E))) (es : List (ℕ × Option (Running K V E))) → IsDistinct nat_eq (keys_of es)
+      → (numbers : List ℕ) → numbers ≡ option_to_list (option_and_then held_in newest) ++ filter_map (of_others last held_in) es
       → AreHeld numbers (λ n. option_map call_in (runs_in (cond (last == n) newest (lookup (nat_eq n) es))))
-  all_hold last newest es unique below numbers e =
-      same_held numbers (λ n. option_map call_in (runs_in (lookup (nat_eq n) (with_newest last newest es)))) (λ n. option_map call_in (runs_in (cond (last == n) newest (lookup (nat_eq n) es))))
-      (λ n. ap (λ p. option_map call_in (runs_in p)) (placed last newest es below n))
-      (live_hold (with_newest last newest es) (all_apart last newest es unique below) numbers (e ∙ first_held last newest es))
+  all_hold last newest es unique numbers e =
+      same_held numbers (λ n. option_map call_in (runs_in (lookup (nat_eq n) (with_newest last newest (others last es))))) (λ n. option_map call_in (runs_in (cond (last == n) newest (lookup (nat_eq n) es))))
+      (λ n. ap (λ p. option_map call_in (runs_in p)) (placed last newest es n))
+      (live_hold (with_newest last newest (others last es)) (all_apart last newest es unique) numbers (e ∙ tell_all held_in last newest es))
 
   -- the visits that open the notices of all calls that are due
-  pub all_due : (last : ℕ) (newest : Option (Option (Running K V E))) (es : List (ℕ × Option (Running K V E))) → IsDistinct nat_eq (keys_of es) → AllBefore last es
-      → (visits : List (Visit K V E)) → visits ≡ option_to_list (option_and_then due_in newest) ++ filter_map due_in (values_of es)
+  pub all_due : (last : ℕ) (newest : Option (Option (Running K V E))) (es : List (ℕ × Option (Running K V E))) → IsDistinct nat_eq (keys_of es)
+      → (visits : List (Visit K V E)) → visits ≡ option_to_list (option_and_then due_in newest) ++ filter_map (of_others last due_in) es
       → AreNumbered (λ n. runs_in (cond (last == n) newest (lookup (nat_eq n) es)))
       → AreDue visits (λ n. option_map call_in (runs_in (cond (last == n) newest (lookup (nat_eq n) es))))
-  all_due last newest es unique below visits e numbered =
-      same_due visits (λ n. option_map call_in (runs_in (lookup (nat_eq n) (with_newest last newest es)))) (λ n. option_map call_in (runs_in (cond (last == n) newest (lookup (nat_eq n) es))))
-      (λ n. ap (λ p. option_map call_in (runs_in p)) (placed last newest es below n))
-      (live_due (with_newest last newest es) (all_apart last newest es unique below) visits (e ∙ first_due last newest es)
-      (λ n r f. numbered n r (ap runs_in (sym (placed last newest es below n)) ∙ f)))
+  all_due last newest es unique visits e numbered =
+      same_due visits (λ n. option_map call_in (runs_in (lookup (nat_eq n) (with_newest last newest (others last es))))) (λ n. option_map call_in (runs_in (cond (last == n) newest (lookup (nat_eq n) es))))
+      (λ n. ap (λ p. option_map call_in (runs_in p)) (placed last newest es n))
+      (live_due (with_newest last newest (others last es)) (all_apart last newest es unique) visits (e ∙ tell_all due_in last newest es)
+      (λ n r f. numbered n r (ap runs_in (sym (placed last newest es n)) ∙ f)))

@@ -1,5 +1,5 @@
 -- The live calls of a machine, by number.
-use Rattle.std.specs.Prelude.{◌≡◌, ℕ, ◌==◌, Bool, cond, List, Option, Some, None, IsSome, nat_eq}
+use Rattle.std.specs.Prelude.{◌≡◌, ℕ, ◌==◌, cond, List, Option, Some, None, IsSome, nat_eq}
 use Rattle.std.specs.List.{filter_map}
 use Rattle.std.specs.Option.{option_and_then, option_map}
 use Rattle.std.specs.HashMap.{get}
@@ -16,12 +16,6 @@ module _ {K V E : Type 0} where
   -- what the number has: no place, an empty one, or one in which a call runs
   abbrev pub place_at : Calls K V E → ℕ → Option (Option (Running K V E))
   place_at calls n = cond (calls.last == n) calls.newest (get nat_eq calls.places n)
-
-  -- what was there, or this place, if it is one and meant for the number
-  abbrev pub put_some : Option (Option (Running K V E)) → Bool → Option (Option (Running K V E))
-      → Option (Option (Running K V E))
-  put_some None meant before = before
-  put_some (Some place) meant before = cond meant (Some place) before
 
   -- the call that runs there
   abbrev pub runs_in : Option (Option (Running K V E)) → Option (Running K V E)
@@ -50,6 +44,11 @@ module _ {K V E : Type 0} where
   -- the visit that opens the notice of the call of this place, where one runs and its notice is due
   abbrev pub due_in : Option (Running K V E) → Option (Visit K V E)
   due_in place = option_and_then (λ r. due_of r.flow.value) place
+
+  -- what this tells of the place of a number, but of that of the newest call, which stands apart
+  abbrev pub of_others : {A : Type 0} → ℕ → (Option (Running K V E) → Option A)
+      → ℕ × Option (Running K V E) → Option A
+  of_others newest tells e = cond (e.0 == newest) None (tells e.1)
 
   -- the visit that opens the notice of the call of this number, where it is due
   abbrev pub opening_of : ℕ × Call K V E → Option (Visit K V E)

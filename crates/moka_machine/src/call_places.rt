@@ -1,9 +1,9 @@
 //! A call that runs, and the places of calls by their numbers: each empty, or one in which a call
 //! runs.
-ghost use Rattle.std.specs.Prelude.{◌≡◌, ℕ, ◌<◌, ◌==◌, cond, Some, IsSome, nat_eq, option_to_list, IfOk, OnSome};
+ghost use Rattle.std.specs.Prelude.{◌≡◌, ℕ, ◌<◌, ◌==◌, ◌++◌, cond, Some, None, IsSome, nat_eq, option_to_list, IfOk, OnOk, OnSome};
 ghost use Rattle.std.specs.Option.{option_and_then};
 ghost use Rattle.std.specs.HashMap.{get, spare};
-ghost use Rattle.moka_machine.specs.Calls.{put_some, emptied, runs_in, held_in, due_in};
+ghost use Rattle.moka_machine.specs.Calls.{emptied, runs_in, held_in, due_in, of_others};
 
 use crate::machine::TheCall;
 use moka_hist::Visit;
@@ -36,20 +36,34 @@ pub(crate) fn put<K: Drop, V: Drop, E: Drop>(
     }
 }
 
-/// Gives the call this place, if it is one. There is room for it.
-pub(crate) fn put_some<K: Drop, V: Drop, E: Drop>(
+/// Gives the call this place, for which there is room, or none.
+pub(crate) fn set_place<K: Drop, V: Drop, E: Drop>(
     places: &mut HashMap<u64, Option<Running<K, V, E>>>,
     call: u64,
     place: Option<Option<Running<K, V, E>>>,
 )
     requires { 0 < spare places.old }
     ensures { (n : ℕ) → get nat_eq places.new n
-        ≡ put_some place (call == n) (get nat_eq places.old n) }
+        ≡ cond (call == n) place (get nat_eq places.old n) }
 {
     match place {
         Some(place) => put(places, call, place),
-        None => {}
+        None => give_up(places, call),
     }
+}
+
+/// Gives the place of the call up, if it has one. Nothing is hashed where nobody has one.
+pub(crate) fn give_up<K: Drop, V: Drop, E: Drop>(
+    places: &mut HashMap<u64, Option<Running<K, V, E>>>,
+    call: u64,
+)
+    ensures { (n : ℕ) → get nat_eq places.new n
+        ≡ cond (call == n) None (get nat_eq places.old n) }
+{
+    if places.is_empty() {
+        return;
+    }
+    drop(places.remove(&call));
 }
 
 /// Takes the newest call out, and leaves its place, if it has one.
@@ -98,6 +112,16 @@ pub(crate) fn put_back_among<K: Drop, V: Drop, E: Drop>(
         Some(place) => drop(place.replace(running)),
         None => unreachable!(),
     }
+}
+
+/// Appends this one, if it is one.
+pub(crate) fn push_some<T: Drop>(items: &mut Vec<T>, item: Option<T>) -> Result<(), AllocError>
+    ensures { OnOk result (items.new.items ≡ items.old.items ++ option_to_list item) }
+{
+    if let Some(item) = item {
+        items.push(item)?;
+    }
+    Ok(())
 }
 
 /// The number of the write that the newest call holds, if it runs and holds one.
@@ -177,5 +201,34 @@ pub(crate) fn held_number<K, V, E>(place: &Option<Running<K, V, E>>) -> Option<u
     match place {
         Some(running) => running.flow.held().map(|write| write.number()),
         None => None,
+    }
+}
+
+/// The number of the write that the call of this place holds, where one runs and isn't the newest.
+pub(crate) fn other_held<K, V, E>(
+    newest: u64,
+    call: u64,
+    place: &Option<Running<K, V, E>>,
+) -> Option<u64>
+    ensures { result ≡ of_others newest held_in (call, place.now) }
+{
+    match call == newest {
+        true => None,
+        false => held_number(place),
+    }
+}
+
+/// The visit that opens the notice of the call of this place, where that is due and the call isn't
+/// the newest.
+pub(crate) fn other_due<K: Exact, V: Exact, E: Exact>(
+    newest: u64,
+    call: u64,
+    place: &Option<Running<K, V, E>>,
+) -> Result<Option<Visit<K, V, E>>, AllocError>
+    ensures { IfOk result (λ due. due ≡ of_others newest due_in (call, place.now)) }
+{
+    match call == newest {
+        true => Ok(None),
+        false => due_at(place),
     }
 }

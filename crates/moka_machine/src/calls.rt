@@ -1,12 +1,12 @@
 //! The live calls, by number.
-ghost use Rattle.std.specs.Prelude.{◌≡◌, ℕ, ◌<◌, ◌≤◌, true, is_some, nat_eq, None, Some, IfOk, OnOk, OnSome};
+ghost use Rattle.std.specs.Prelude.{◌≡◌, ◌≢◌, ℕ, ◌<◌, ◌≤◌, None, Some, IfOk, OnOk, OnSome};
 ghost use Rattle.std.specs.Option.{option_map};
-ghost use Rattle.std.specs.HashMap.{get, spare};
+ghost use Rattle.std.specs.HashMap.{spare};
 ghost use Rattle.moka_hist.specs.Finite.{put_at};
 
 use crate::call_places::{
-    Running, due_at, held_number, newest_due, newest_held, put, put_back_among, put_some,
-    take_among, take_newest,
+    Running, give_up, newest_due, newest_held, other_due, other_held, push_some, put,
+    put_back_among, set_place, take_among, take_newest,
 };
 use moka_hist::Visit;
 use moka_init::Flow;
@@ -16,8 +16,8 @@ use std::collections::HashMap;
 
 /// The live calls, by number. A call that is being stepped is taken out, and its place stays until
 /// it is put back or forgotten. The place of the greatest number that was added stands apart: most
-/// calls end before the next one starts, and are never hashed. The box of a flow that has answered
-/// is kept for the next call.
+/// calls end before the next one starts, and are never hashed. What the map has at that number
+/// counts for nothing. The box of a flow that has answered is kept for the next call.
 #[derive(Drop)]
 pub(crate) struct Calls<K, V, E> {
     last: u64,
@@ -25,7 +25,6 @@ pub(crate) struct Calls<K, V, E> {
     places: HashMap<u64, Option<Running<K, V, E>>>,
     spent: Option<Box<Flow<K, V, E>>>,
     alloc: Global,
-    ghost before: { (n : ℕ) → is_some (get nat_eq places n) ≡ true → n < last },
 }
 
 impl<K: Drop, V: Drop, E: Drop> Calls<K, V, E> {
@@ -85,16 +84,15 @@ impl<K: Drop, V: Drop, E: Drop> Calls<K, V, E> {
         self.newest = Some(Some(running));
     }
 
-    // Makes this the greatest number: the call of the one before goes among the others, if it still
-    // has a place.
+    // Makes this the greatest number: what stands apart for the one before goes among the others.
     fn go_on_to(&mut self, call: u64)
         requires room { 0 < spare self.old.places }
         requires later { self.old.last ≤ call }
         ensures last { self.new.last ≡ call }
-        ensures same { (n : ℕ) → place_at self.new n ≡ place_at self.old n }
+        ensures others { (n : ℕ) → n ≢ call → place_at self.new n ≡ place_at self.old n }
     {
         if self.last < call {
-            put_some(&mut self.places, self.last, self.newest.take());
+            set_place(&mut self.places, self.last, self.newest.take());
             self.last = call;
         }
     }
@@ -136,7 +134,7 @@ impl<K: Drop, V: Drop, E: Drop> Calls<K, V, E> {
         if call == self.last {
             self.newest = None;
         } else {
-            drop(self.places.remove(&call));
+            give_up(&mut self.places, call);
         }
     }
 
@@ -155,10 +153,8 @@ impl<K: Drop, V: Drop, E: Drop> Calls<K, V, E> {
             (λ n. option_map call_in (running_at self.now n))) }
     {
         let mut numbers = newest_held(alloc, &self.newest)?;
-        for place in self.places.values() {
-            if let Some(number) = held_number(place) {
-                numbers.push(number)?;
-            }
+        for (call, place) in self.places.iter() {
+            push_some(&mut numbers, other_held(self.last, *call, place))?;
         }
         Ok(numbers)
     }
@@ -173,10 +169,9 @@ impl<K: Drop, V: Drop, E: Drop> Calls<K, V, E> {
             → AreDue visits.items (λ n. option_map call_in (running_at self.now n))) }
     {
         let mut visits = newest_due(alloc, &self.newest)?;
-        for place in self.places.values() {
-            if let Some(visit) = due_at(place)? {
-                visits.push(visit)?;
-            }
+        for (call, place) in self.places.iter() {
+            let visit = other_due(self.last, *call, place)?;
+            push_some(&mut visits, visit)?;
         }
         Ok(visits)
     }

@@ -20,6 +20,8 @@ mod fresh;
 #[cfg(test)]
 mod in_memory;
 #[cfg(test)]
+mod kept_locks;
+#[cfg(test)]
 mod listener;
 #[cfg(test)]
 mod loads;

@@ -28,10 +28,10 @@ const ROWS: [(&str, &str); 11] = [
         "cache log=8 listener / start insert 1 5 / poll 1 / start insert 1 6 / poll 2 / start insert 1 7 / poll 3 / at 9 / tell 2 done / poll 3 / poll 2 / poll 3",
         "call 1 / answer done / call 2 / ask listener 1 5 Replaced / call 3 / wait / at / told / wait / answer done / ask listener 1 6 Replaced / entry 1 7 stamp 3 at 9 / write 1 logged / write 2 logged / write 3 held / notice 2 1 5 Replaced ended / notice 3 1 6 Replaced running",
     ),
-    // A drop frees the lock while its notice runs.
+    // The running notice of a dropped call keeps the lock.
     (
         "cache log=8 listener / start insert 1 5 / poll 1 / start insert 1 6 / poll 2 / start insert 1 7 / poll 3 / drop 2 / poll 3",
-        "call 1 / answer done / call 2 / ask listener 1 5 Replaced / call 3 / wait / dropped / ask listener 1 6 Replaced / entry 1 7 stamp 3 at 0 / write 1 logged / write 2 owed / write 3 held / notice 2 1 5 Replaced running / notice 3 1 6 Replaced running",
+        "call 1 / answer done / call 2 / ask listener 1 5 Replaced / call 3 / wait / dropped / wait / entry 1 6 stamp 2 at 0 / write 1 logged / write 2 owed / notice 2 1 5 Replaced running",
     ),
     // A notice that is due waits, and its call cannot be dropped.
     (

@@ -2,14 +2,16 @@
 use Rattle.std.proofs.Common.{◌≡◌, ℕ, suc, ◌+◌, ◌≤◌, ◌==◌, ◌||◌, nat_eq, eq-eqb, ltb, Bool, true, false, cond, List, [], ◌∷◌, ◌++◌, length, Option, None, Some, is_some, refl, sym, ap, ◌∙◌, arith}
 use Rattle.std.specs.Map.{lookup}
 use Rattle.std.proofs.lemmas.List.Elements.{filter-append}
-use Rattle.std.proofs.lemmas.List.{map-append}
+use Rattle.std.proofs.lemmas.List.{length-map, map-append}
 use borrow.Author.Tests.{eqb-true}
 use Rattle.std.proofs.lemmas.Bool.Decides.{nat_tests}
 use Rattle.moka_hist.specs.Finite.{times}
 use Rattle.moka_sync.specs.declared.places.Place.{Place}
 use Rattle.moka_sync.specs.declared.tickets.Held.{Held}
-use Rattle.moka_sync.specs.Tickets.{held_or, count_of}
+use Rattle.moka_sync.specs.Tickets.{held_or, count_of, ticket_of}
 use Rattle.moka_sync.specs.Waiting.{Waiting, waits, AreOnce, without}
+use Rattle.moka_sync.specs.WaitView.{view_of, IsWaitList}
+use Rattle.moka_sync.specs.declared.wait_list.WaitList.TheInside.{Inside}
 use Rattle.moka_sync.specs.Standing.{is_standing, standing_places, standing, places_of, AreBelow, AreKept}
 
 -- how often numbers stand in lists
@@ -59,6 +61,19 @@ module _ (f : ℕ → Option ℕ) where
     by : (b : Bool) → length (standing_places f ps) ≤ length ps → length (cond b (p ∷ standing_places f ps) (standing_places f ps)) ≤ suc (length ps)
     by true h = omega arith
     by false h = omega arith
+
+  -- as many calls stand as places
+  pub standing-length : (xs : List Place) → length (standing f xs) ≡ length (standing_places f xs)
+  standing-length xs = length-map (standing_places f xs) (λ (p : Place). p.call)
+
+  -- where no fewer stand than there are, each does
+  pub standing_places-all : (xs : List Place) → length xs ≤ length (standing_places f xs) → standing_places f xs ≡ xs
+  standing_places-all [] few = refl
+  standing_places-all (p ∷ ps) few = by (is_standing f p) (standing_places-short ps) (standing_places-all ps) few where
+    by : (b : Bool) → length (standing_places f ps) ≤ length ps → (length ps ≤ length (standing_places f ps) → standing_places f ps ≡ ps) →
+        suc (length ps) ≤ length (cond b (p ∷ standing_places f ps) (standing_places f ps)) → cond b (p ∷ standing_places f ps) (standing_places f ps) ≡ p ∷ ps
+    by true short rest few = ap (λ ys. p ∷ ys) (rest (omega arith))
+    by false short rest few = absurd (omega arith)
 
   -- what stands of what stands
   pub standing_places-twice : (xs : List Place) → standing_places f (standing_places f xs) ≡ standing_places f xs
@@ -193,6 +208,11 @@ no-ticket f places next c kept e = by (f c) (sym (waits-ticket f places next c k
   by : (o : Option ℕ) → is_some o ≡ false → o ≡ None
   by None e = refl
   by (Some t) e = cc
+
+-- and so does one that a list doesn't show
+pub unticketed : (w : Inside) (v : Waiting) (call : ℕ) (answer : Bool) → view_of w ≡ v → IsWaitList w → answer ≡ waits call v.calls → answer ≡ false → ticket_of w.tickets call ≡ None
+unticketed w v call answer is inv waiting absent =
+    no-ticket (ticket_of w.tickets) w.places w.next call inv.kept (ap (λ (u : Waiting). waits call u.calls) is ∙ sym waiting ∙ absent)
 
 -- one more call loses its ticket
 pub gone-more : (first before after : ℕ → Option ℕ) (xs : List ℕ) (c q : ℕ) → after q ≡ cond (c == q) None (before q) → before q ≡ cond (waits q xs) None (first q) → after q ≡ cond (waits q (xs ++ c ∷ [])) None (first q)

@@ -1,8 +1,8 @@
 //! The places of a wait list, in a chain of nodes that move without memory.
 
 ghost use Rattle.std.specs.Prelude.{◌≡◌, ℕ, ◌+◌, ◌<◌, ◌≤◌, ◌^◌, if◌then◌else◌, map, [], ◌∷◌, ◌++◌, length, take, drop};
-ghost use Rattle.moka_sync.specs.Standing.{is_standing, standing_places, AreBelow};
-ghost use Rattle.moka_sync.specs.Tickets.{ticket_of, tickets_room};
+ghost use Rattle.moka_sync.specs.Standing.{is_standing, standing, standing_places, AreBelow};
+ghost use Rattle.moka_sync.specs.Tickets.{ticket_of, tickets_len, tickets_room};
 ghost use Rattle.moka_sync.specs.Waiting.{waits};
 
 use crate::tickets::Tickets;
@@ -68,6 +68,17 @@ pub(crate) fn sweep(alloc: Global, tickets: &Tickets, places: &mut LinkedList<Pl
         keep_standing(tickets, node, &mut kept);
     }
     mem::swap(places, &mut kept);
+}
+
+/// Drops the places that do not stand, as `sweep` does. Where there are no more places than tickets
+/// each of them stands, and nothing is looked up.
+pub(crate) fn sweep_some(alloc: Global, tickets: &Tickets, places: &mut LinkedList<Place>)
+    requires { tickets_len tickets.now ≡ length (standing (ticket_of tickets.now) places.old) }
+    ensures { places.new ≡ standing_places (ticket_of tickets.now) places.old }
+{
+    if places.len() > tickets.len() {
+        sweep(alloc, tickets, places);
+    }
 }
 
 /// Drops the places that do not stand, where they are more than those that do.

@@ -4,7 +4,7 @@ ghost use Rattle.std.specs.Prelude.{◌≡◌, ◌+◌, ◌-◌, ◌<◌, ◌↔
 ghost use Rattle.moka_sync.specs.Waiting.{Waiting, waits, IsListed, AreOnce, without};
 
 use crate::CallList;
-use crate::places::{NOBODY, Place, forget, seat, sweep, sweep_stale};
+use crate::places::{NOBODY, Place, forget, seat, sweep_some, sweep_stale};
 use crate::tickets::Tickets;
 use std::alloc::{AllocError, Global};
 use std::collections::LinkedList;
@@ -123,8 +123,15 @@ impl WaitList {
         if self.contains(call) {
             return Ok(());
         }
-        self.reserve(1)?;
-        self.add_reserved(call);
+        let room = self.spare.len() + 1;
+        if self.next > u64::MAX - room as u64 || room >= NODES - self.places.len() {
+            return Err(AllocError);
+        }
+        self.tickets.reserve(room)?;
+        let ticket = self.next;
+        self.places.push_back(Place { call, ticket })?;
+        self.tickets.give(call, ticket);
+        self.next = ticket + 1;
         Ok(())
     }
 
@@ -146,13 +153,41 @@ impl WaitList {
         CallList::from_places(places, LinkedList::new(self.alloc))
     }
 
+    /// Hands out all calls that wait, in order, of a list that nobody waits on any more.
+    pub fn into_calls(self) -> CallList
+        ensures all { result ≡ self.calls }
+        ensures once { AreOnce self.calls }
+    {
+        let alloc = self.alloc;
+        let places = self.into_places();
+        CallList::from_places(places, LinkedList::new(alloc))
+    }
+
     /// Hands out all calls that wait on this list, and then those on the other, each in order.
-    pub fn take_both(mut self, mut other: WaitList) -> CallList
+    pub fn take_both(self, other: WaitList) -> CallList
         ensures { result ≡ self.calls ++ other.calls }
     {
-        let places = self.take_places();
-        let more = other.take_places();
+        let places = self.into_places();
+        let more = other.into_places();
         CallList::from_places(places, more)
+    }
+
+    // The places that stand. The tickets go with the list, and none is taken by itself.
+    fn into_places(self) -> LinkedList<Place>
+        ensures all { map (λ p. p.call) result ≡ self.calls }
+        ensures once { AreOnce self.calls }
+    {
+        let WaitList {
+            alloc,
+            mut places,
+            spare,
+            tickets,
+            next: _,
+        } = self;
+        drop(spare);
+        sweep_some(alloc, &tickets, &mut places);
+        drop(tickets);
+        places
     }
 
     // Takes the places that stand, and leaves nobody waiting.
@@ -161,7 +196,7 @@ impl WaitList {
         ensures once { AreOnce self.old.calls }
         ensures none { self.new ≡ record self.old { calls = [] } }
     {
-        sweep(self.alloc, &self.tickets, &mut self.places);
+        sweep_some(self.alloc, &self.tickets, &mut self.places);
         forget(&mut self.tickets, &self.places);
         self.next = 0;
         mem::replace(&mut self.places, LinkedList::new(self.alloc))

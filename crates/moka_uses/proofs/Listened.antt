@@ -143,8 +143,8 @@ module _ {K V E : Type 0} (eq : K → K → Bool) (n : ℕ) (Stage : World K V E
 -- ---- what is known of the cache
 
 module _ {K V E : Type 0} where
-  -- So many calls were started, and so many writes logged. Nothing is owed or hidden, and the
-  -- listener isn't off.
+  -- So many calls were started, and so many writes logged. Nothing is owed or hidden, no notice keeps
+  -- a lock, and the listener isn't off.
   pub record Calm (calls writes : ℕ) (d : DeskPart K V E) : Type 0 where
     pub rules : d.rules ≡ listening_rules
     pub last : d.last ≡ calls
@@ -154,13 +154,14 @@ module _ {K V E : Type 0} where
     pub hears : d.off ≡ false
     pub valid : d.valid_after ≡ None
     pub none : d.registered ≡ []
+    pub kept : (n : ℕ) → d.kept n ≡ None
 
   -- so of a desk that is like it in these
   pub calm_like : (calls writes : ℕ) (d e : DeskPart K V E) → e.rules ≡ d.rules →
       e.last ≡ d.last → e.owed ≡ d.owed → e.log ≡ d.log → e.size ≡ d.size → e.off ≡ d.off →
-      e.valid_after ≡ d.valid_after → e.registered ≡ d.registered → Calm calls writes d →
-      Calm calls writes e
-  calm_like calls writes d e rules last owed log size off valid none i = record {
+      e.valid_after ≡ d.valid_after → e.registered ≡ d.registered → e.kept ≡ d.kept →
+      Calm calls writes d → Calm calls writes e
+  calm_like calls writes d e rules last owed log size off valid none kept i = record {
     rules = rules ∙ i.rules;
     last = last ∙ i.last;
     owed = owed ∙ i.owed;
@@ -169,6 +170,7 @@ module _ {K V E : Type 0} where
     hears = off ∙ i.hears;
     valid = valid ∙ i.valid;
     none = none ∙ i.none;
+    kept = λ n. ap (λ f. f n) kept ∙ i.kept n;
   }
 
   -- no rule hides a record
@@ -313,7 +315,7 @@ module _ {K V E : Type 0} (eq : K → K → Bool) (key : K) (value : V) (n calls
     steps p e (At_lock i free stood) =
         outcomes eq (Moves w) w n c (plan.Lock key) moments (
           λ unlocked. On _ refl refl ruled (At_moment
-              (calm_like calls writes w.desk _ refl refl refl refl refl refl refl refl i)
+              (calm_like calls writes w.desk _ refl refl refl refl refl refl refl refl refl i)
               (ap (λ b. cond b (Some n) (w.desk.locks key)) same) stood),
           λ held. absurd (not_both (is_unlocked_for w.desk n key)
               (ap (λ h. option_map_or (λ holder. holder == n) h true) free) held),
@@ -321,7 +323,7 @@ module _ {K V E : Type 0} (eq : K → K → Bool) (key : K) (value : V) (n calls
     steps p e (At_moment i held stood) =
         outcomes eq (Moves w) w n c (plan.Moment (plan.To_store key value)) done
         (On _ refl refl ruled (At_write w.desk.clock
-        (calm_like calls writes w.desk _ refl refl refl refl refl refl refl refl i) held stood))
+        (calm_like calls writes w.desk _ refl refl refl refl refl refl refl refl refl i) held stood))
     steps p e (At_write moment i held stood) = (
       λ more. On _ refl refl ruled (subst (Inserting _) (sym e) (At_write moment i held stood)),
       λ found t h. subst (λ x. Moves w (record w { table = x; stay = decided_by n })
@@ -336,7 +338,7 @@ module _ {K V E : Type 0} (eq : K → K → Bool) (key : K) (value : V) (n calls
           λ on. Ends (Asked there old post some
               (calm_like calls writes w.desk
               (was_opened eq w.desk n key old None true notice.Running)
-              refl refl refl refl refl refl refl refl i) held has
+              refl refl refl refl refl refl refl refl refl i) held has
               (ap (λ x. option_map_or (λ (v : Notice K V). runs v.state) x false)
               (put_here w.desk.notices n (Some (told old)))) left refl ruled refl
               (cause_of w.desk old.stamp old.modified None true)
@@ -362,7 +364,7 @@ module _ {K V E : Type 0} (eq : K → K → Bool) (key : K) (value : V) (n calls
     steps p e (At_unlock post none i held has) =
         outcomes eq (Moves w) w n c (plan.Unlock true) (plan.Post post ∷ done)
         (On _ refl refl ruled (At_post post none
-        (calm_like calls writes w.desk _ refl refl refl refl refl refl refl refl i)
+        (calm_like calls writes w.desk _ refl refl refl refl refl refl refl refl refl i)
         (ap (λ h. cond (option_map_or (λ holder. holder == n) h false) None h) held ∙
         ap (λ b. cond b None (Some n)) (same_number n)) has))
     steps p e (At_post post none i free has) =
@@ -376,6 +378,7 @@ module _ {K V E : Type 0} (eq : K → K → Bool) (key : K) (value : V) (n calls
             hears = i.hears;
             valid = i.valid;
             none = i.none;
+            kept = i.kept;
           }) free has),
           λ full. absurd (not_both (has_room w.desk)
               (ap (λ k. nat_lt k w.desk.size) i.logged ∙ ap (λ k. nat_lt writes k) i.size ∙ room)

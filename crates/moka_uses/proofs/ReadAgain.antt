@@ -1,6 +1,6 @@
 -- A record that was replaced under a listener, and the lookup that follows: by the law of gets that
 -- follow an insert undisturbed.
-use Rattle.std.proofs.Common.{◌≡◌, ◌≢◌, ℕ, zero, suc, ◌+◌, ◌≤◌, ◌<◌, ◌==◌, nat_lt, Bool, true, false, ◌||◌, List, [], ◌∷◌, ◌++◌, replicate, All, Option, Some, None, MatchBool, refl, sym, ap, ◌∙◌, subst, arith}
+use Rattle.std.proofs.Common.{◌≡◌, ◌≢◌, ℕ, zero, suc, ◌+◌, ◌≤◌, ◌<◌, ◌==◌, nat_lt, Bool, true, false, cond, ◌||◌, List, [], ◌∷◌, ◌++◌, replicate, All, Option, Some, None, is_some, MatchBool, refl, sym, ap, ◌∙◌, subst, arith}
 use Rattle.std.proofs.lemmas.Bool.{eqb-true}
 use Rattle.std.proofs.lemmas.List.Elements.{All-cons, All-nil}
 use Rattle.std.specs.Option.{option_map, option_map_or}
@@ -9,7 +9,7 @@ use Rattle.moka_hist.specs.Plan as plan
 use Rattle.moka_hist.specs.State.{Call, Division, Handed, State, fresh}
 use Rattle.moka_hist.specs.Step.{Step}
 use Rattle.moka_hist.specs.Telling.{told, with_end}
-use Rattle.moka_hist.specs.Visits.{is_running, runs}
+use Rattle.moka_hist.specs.Visits.{is_keeping, is_running, locks_without, runs}
 use Rattle.moka_hist.specs.Run.{Any, Becomes, Goings, Happens, Refuses, Run, fresh_call, last_call, reply_of, started, with_desk}
 use Rattle.moka_hist.specs.declared.accesses.Turn.{Turn}
 use Rattle.moka_hist.specs.declared.accesses.Turn.TheVariants as turn
@@ -74,6 +74,7 @@ module _ {K V E : Type 0} (eq : K → K → Bool) where
     hears = i.hears;
     valid = i.valid;
     none = i.none;
+    kept = i.kept;
   }
 
   -- a listener's answer to a notice that runs is taken
@@ -221,8 +222,17 @@ module _ {K V E : Type 0} (eq : K → K → Bool) (key : K) (same : eq key key �
           hears = ap (λ b. b || false) i.calm.hears;
           valid = i.calm.valid;
           none = i.calm.none;
-        }) i.held (i.moment, i.has) (stopped eq s n));
+          kept = λ m. out (n == m) (i.calm.kept m);
+        }) (held (i.calm.kept n)) (i.moment, i.has) (stopped eq s n));
   })
+    where
+      out : {o : Option K} (b : Bool) → o ≡ None → cond b None o ≡ None
+      out true none = refl
+      out false none = none
+
+      -- the notice kept no lock, so the call's is not free
+      held : s.world.desk.kept n ≡ None → cond (is_keeping s.world.desk n) (locks_without s.world.desk n) s.world.desk.locks key ≡ Some n
+      held none = ap (λ o. cond (is_some o) (locks_without s.world.desk n) s.world.desk.locks key) none ∙ i.held
 
 -- ---- the lookup
 
@@ -290,6 +300,7 @@ module _ {K V : Type 0} (eq : K → K → Bool) (key : K) (first value : V) (sam
     hears = refl;
     valid = refl;
     none = refl;
+    kept = λ n. refl;
   }
 
   -- the first insert, from its start until it is done

@@ -1,8 +1,8 @@
 //! The rules of the caches, what is started, and what accesses give, by their names, of the key 3.
 
 use moka_hist::{
-    Cause, Claim, Found, Got, Id, Op, Owed, PredicateError, Rules, Settled, Start, Stored,
-    TableAnswer, TableTurn, Told, Write,
+    Cause, Claim, Found, Got, Id, LockTaken, Op, Owed, PredicateError, Rules, Settled, Start,
+    Stored, TableAnswer, TableTurn, Told, Write,
 };
 
 const KEY: u32 = 3;
@@ -146,8 +146,9 @@ fn of_writes(word: &str) -> Option<Got<u32, u32, u32>> {
 
 fn of_notices(word: &str) -> Option<Got<u32, u32, u32>> {
     match word {
-        "locked" => desk(Found::LockKey(true)),
-        "held by another" => desk(Found::LockKey(false)),
+        "locked" => desk(Found::LockKey(LockTaken::Taken)),
+        "held by another" => desk(Found::LockKey(LockTaken::Held)),
+        "kept by a notice" => desk(Found::LockKey(LockTaken::Kept { notice: 7 })),
         "unlocked" => desk(Found::UnlockKey),
         "replaced" => desk(Found::OpenNotice(Some(Cause::Replaced))),
         "explicit" => desk(Found::OpenNotice(Some(Cause::Explicit))),

@@ -60,6 +60,7 @@ fn gets_and_inserts_run_access_by_access(rt: HostRuntime) {
 // An insert under a listener commits its write, which replaces a record.
 const COMMITTED: &str = "take owed / none / going\n\
     lock key / held by another / wait\n\
+    lock key / kept by a notice / wait\n\
     lock key / locked / going\n\
     stamp moment / stamped / going\n\
     insert / found / going\n";

@@ -44,16 +44,3 @@ returns g c =
     c.loop-call.behind)
     (take_all c.loop-call.call-index c.args.calls.now end) c.loop-call.invariant.so_far)
     c.unsent.ensures c.in_ok-push_unsent.ensures
-
--- the cache is given up as its last call left it
-pub invariant_of-behind : goal.invariant_of-behind
-invariant_of-behind g c = record { before = c.serve.new.behind.cache.machine.calls.before }
-
-pub invariant_of-behind-in_err-push_reply : goal.invariant_of-behind-in_err-push_reply
-invariant_of-behind-in_err-push_reply g c = record { before = c.serve.new.behind.cache.machine.calls.before }
-
-pub invariant_of-behind-in_err-push_unsent : goal.invariant_of-behind-in_err-push_unsent
-invariant_of-behind-in_err-push_unsent g c = record { before = c.loop-call.behind.cache.machine.calls.before }
-
-pub invariant_of-behind-2 : goal.invariant_of-behind-2
-invariant_of-behind-2 g c = record { before = c.loop-call.behind.cache.machine.calls.before }

@@ -26,34 +26,34 @@ wait_or_own-requires c = record { free = (untouched c.requires.0, c.requires.1, 
 pub lock_key-requires : goal.lock_key-requires
 lock_key-requires c =
     let rules = c.requires.0 in
-    record { free = (owned rules, c.in_ok-wait_or_own.ensures.makes (untouched rules) c.requires.1 (refl, refl, λ owner e. refl), refl) }
+    record { free = (owned rules, c.in_ok-wait_or_own.ensures.makes (untouched rules) c.requires.1 (refl, refl, λ owner e. refl), (refl, refl)) }
 
 pub wait_or_own-requires-2 : goal.wait_or_own-requires-2
 wait_or_own-requires-2 c =
     let rules = c.requires.0 in
     let owns = c.in_ok-wait_or_own.ensures.makes (untouched rules) c.requires.1 (refl, refl, λ owner e. refl) in
-    record { free = (locked rules, c.in_ok-lock_key.ensures.makes (owned rules) owns refl, (refl, refl, λ owner e. refl)) }
+    record { free = (locked rules, c.in_ok-lock_key.ensures.makes (owned rules) owns (refl, refl), (refl, refl, λ owner e. refl)) }
 
 pub read_settled-requires : goal.read_settled-requires
 read_settled-requires c =
     let rules = c.requires.0 in
     let owns = c.in_ok-wait_or_own.ensures.makes (untouched rules) c.requires.1 (refl, refl, λ owner e. refl) in
-    let locks = c.in_ok-lock_key.ensures.makes (owned rules) owns refl in
+    let locks = c.in_ok-lock_key.ensures.makes (owned rules) owns (refl, refl) in
     record { waits = (joined rules, c.in_ok-wait_or_own-2.ensures.makes (locked rules) locks (refl, refl, λ owner e. refl), refl) }
 
 pub lock_key-requires-2 : goal.lock_key-requires-2
 lock_key-requires-2 c =
     let rules = c.requires.0 in
     let owns = c.in_ok-wait_or_own.ensures.makes (untouched rules) c.requires.1 (refl, refl, λ owner e. refl) in
-    let locks = c.in_ok-lock_key.ensures.makes (owned rules) owns refl in
+    let locks = c.in_ok-lock_key.ensures.makes (owned rules) owns (refl, refl) in
     let joins = c.in_ok-wait_or_own-2.ensures.makes (locked rules) locks (refl, refl, λ owner e. refl) in
-    record { free = (joined rules, c.in_ok-read_settled.ensures.makes (joined rules) joins refl, refl) }
+    record { free = (joined rules, c.in_ok-read_settled.ensures.makes (joined rules) joins refl, (refl, refl)) }
 
 pub returns : goal.returns
 returns c =
     let rules = c.requires.0 in
     let owns = c.in_ok-wait_or_own.ensures.makes (untouched rules) c.requires.1 (refl, refl, λ owner e. refl) in
-    let locks = c.in_ok-lock_key.ensures.makes (owned rules) owns refl in
+    let locks = c.in_ok-lock_key.ensures.makes (owned rules) owns (refl, refl) in
     let joins = c.in_ok-wait_or_own-2.ensures.makes (locked rules) locks (refl, refl, λ owner e. refl) in
     let reads = c.in_ok-read_settled.ensures.makes (joined rules) joins refl in
-    (joined rules, c.in_ok-lock_key-2.ensures.makes (joined rules) reads refl)
+    (joined rules, c.in_ok-lock_key-2.ensures.makes (joined rules) reads (refl, refl))

@@ -24,10 +24,3 @@ pub returns : goal.returns
 returns c =
     let all : length c.args.lines.now ≤ c.loop-line.line-index = omega arith in
     all_played c.loop-line.gateway c.loop-line.text.items (gateway_text c.args.lines.now) c.args.lines.now c.loop-line.line-index all c.loop-line.invariant
-
--- the gateway is given up as its last line left it
-pub invariant_of-gateway : goal.invariant_of-gateway
-invariant_of-gateway c = record { before = c.play_line.new.gateway.fetches.cache.machine.calls.before }
-
-pub invariant_of-gateway-2 : goal.invariant_of-gateway-2
-invariant_of-gateway-2 c = record { before = c.loop-line.gateway.fetches.cache.machine.calls.before }

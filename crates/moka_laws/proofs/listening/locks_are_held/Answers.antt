@@ -1,5 +1,5 @@
-use Rattle.moka_laws.proofs.Locking.{in_locking, locks_held}
+use Rattle.moka_laws.proofs.Ordering.{locks_held}
 use Rattle.moka_laws.proofs.listening.locks_are_held.Goals as goal
 
 pub returns : goal.returns
-returns g c = record { held = λ s h. locks_held s (in_locking g.K.PartialEq.eq s h) }
+returns g c = record { held = locks_held g.K.PartialEq.eq g.met.K.Eq.laws }

@@ -16,10 +16,3 @@ returns c =
     (λ summary sums. summed_up c.args.turns c.args.seed rules c.in_ok-replies.replies
     c.run_workload.new.cache summary ruled ran (sums ran.final ran.stands))
     c.sum_up.ensures
-
--- the cache is given up as the run left it
-pub invariant_of-cache : goal.invariant_of-cache
-invariant_of-cache c = record { before = c.run_workload.new.cache.calls.before }
-
-pub invariant_of-cache-2 : goal.invariant_of-cache-2
-invariant_of-cache-2 c = record { before = c.run_workload.new.cache.calls.before }

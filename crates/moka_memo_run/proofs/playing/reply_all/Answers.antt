@@ -32,13 +32,3 @@ returns c =
     let came = subst (λ lines. Came c.loop-line.memo c.loop-line.text.items (replied_all (fresh (rules_in c.args.lines.now)) lines)) all
     c.loop-line.invariant.came in
     c.in_ok-push_known.ensures ∙ (λ i. came.0 i ++ known_line (c.known.ensures (replied_all (fresh (rules_in c.args.lines.now)) c.args.lines.now).1 came.1 i))
-
--- the memo is given up as its last line left it
-pub invariant_of-memo : goal.invariant_of-memo
-invariant_of-memo c = record { before = c.reply.new.memo.claims.cache.machine.calls.before }
-
-pub invariant_of-memo-in_err-push_known : goal.invariant_of-memo-in_err-push_known
-invariant_of-memo-in_err-push_known c = record { before = c.loop-line.memo.claims.cache.machine.calls.before }
-
-pub invariant_of-memo-2 : goal.invariant_of-memo-2
-invariant_of-memo-2 c = record { before = c.loop-line.memo.claims.cache.machine.calls.before }

@@ -32,13 +32,3 @@ returns c =
       reports = c.in_ok-lists.ensures ran.final ran.stands;
       reached = c.reached_by_lawful_run.ensures.reached first ran.final _ _ reached ran.run;
     })
-
--- the cache is given up as the run left it
-pub invariant_of-machine : goal.invariant_of-machine
-invariant_of-machine c = record { before = c.replies_to.new.machine.calls.before }
-
-pub invariant_of-machine-in_err-lists : goal.invariant_of-machine-in_err-lists
-invariant_of-machine-in_err-lists c = record { before = c.replies_to.new.machine.calls.before }
-
-pub invariant_of-machine-2 : goal.invariant_of-machine-2
-invariant_of-machine-2 c = record { before = c.replies_to.new.machine.calls.before }

@@ -1,5 +1,4 @@
 -- What stands after a sweep stood before.
-use Rattle.std.proofs.Common.{nat_eq}
 use Rattle.moka_sync.specs.Tickets.{ticket_of}
 use Rattle.moka_sync.proofs.Stands.{standing_places-twice, standing_places-short, AreBelow-standing}
 use Rattle.moka_sync.proofs.places.sweep_stale.Goals as goal

@@ -3,7 +3,7 @@ use Rattle.std.proofs.Common.{◌⊎◌, subst}
 use Rattle.moka_init.specs.FlowPlan.{call_of, tested_in}
 use Rattle.moka_kept.specs.Stops.{IsWaiting}
 use Rattle.moka_kept.specs.Taking.{Brings}
-use Rattle.moka_cache.specs.Hearing.{Awaits, Unheard, over_in}
+use Rattle.moka_cache.specs.Hearing.{Awaits, Unheard, over_in, standing_at}
 use Rattle.moka_cache.proofs.Turning.{begun_at, pending_by, turned, waits_still}
 use Rattle.moka_cache.proofs.cache.Cache.round.Goals as goal
 
@@ -15,7 +15,7 @@ pub returns-clause-cause : goal.returns-clause-cause
 returns-clause-cause g c =
     pending_by _ (over_in c.after.result) (λ pending.
     waits_still g.K.PartialEq.eq (Brings (tested_in (call_of c.args.flow.now).plan) c.args.brought) _ c.args.flow.now c.hold-stop.result c.hold-stop.new.flow c.hold-stop.ensures.stops
-    (subst (λ s. IsWaiting c.hold-stop.result ⊎ Awaits (Unheard g.L.Listener.pends s.listener) c.hold-stop.new.flow) c.deref-shared.ensures (c.after.ensures.cause pending)))
+    (subst (λ s. IsWaiting c.hold-stop.result ⊎ Awaits (Unheard g.L.Listener.pends s.listener) (standing_at c.hold-stop.result c.hold-stop.new.flow)) c.deref-shared.ensures (c.after.ensures.cause pending)))
 
 pub returns-clause-context : goal.returns-clause-context
 returns-clause-context g c = record {

@@ -1,12 +1,38 @@
 -- A hold that left the call waiting left its task registered.
-use Rattle.std.proofs.Common.{inl, inr, sym, subst}
+use Rattle.std.proofs.Common.{◌≡◌, inl, inr, Some, IfSome, sym, subst}
 use Rattle.futures.specs.Task.{Lasting}
+use Rattle.futures.specs.declared.task.Poll.TheVariants.{Pending}
+use Rattle.moka_kept.specs.Ends.{MayEnd}
 use Rattle.moka_kept.specs.Stops.{IsWaiting}
+use Rattle.moka_kept.specs.declared.stop.Stop.{Stop}
+use Rattle.moka_cache.specs.Hearing.{Awaits, Ends, IsHeard, Unheard, WasPolled, heard_in, over_in, standing_at}
 use Rattle.moka_cache.proofs.Staying.{asked_still}
 use Rattle.moka_cache.proofs.cache.Shared.after.Goals as goal
 
 pub returns-in-Due-clause-cause : goal.returns-in-Due-clause-cause
-returns-in-Due-clause-cause g c = λ pending. inr (c.after_due.ensures.cause pending)
+returns-in-Due-clause-cause g c = λ pending.
+    inr (subst (λ (s : Stop g.row.K.Denot g.row.V.Denot g.row.E.Denot). Awaits (Unheard g.L.Listener.pends c.args.self.now.listener) (standing_at s c.args.flow.now)) (sym c.in-Due.is)
+    (c.after_due.ensures.cause pending))
+
+pub returns-in-Due-clause-heard : goal.returns-in-Due-clause-heard
+returns-in-Due-clause-heard g c =
+    subst (λ (s : Stop g.row.K.Denot g.row.V.Denot g.row.E.Denot). IfSome (heard_in c.after_due.result) (IsHeard (Ends (MayEnd g.L.Listener.quits) c.args.self.now.listener) (standing_at s c.args.flow.now)))
+    (sym c.in-Due.is) c.after_due.ensures.heard
+
+pub returns-in-Due-clause-polled : goal.returns-in-Due-clause-polled
+returns-in-Due-clause-polled g c =
+    subst (λ (s : Stop g.row.K.Denot g.row.V.Denot g.row.E.Denot). over_in c.after_due.result ≡ Some Pending → WasPolled g.L.Listener.pends c.args.self.now.listener (standing_at s c.args.flow.now))
+    (sym c.in-Due.is) c.after_due.ensures.polled
+
+pub returns-in-Waits-clause-heard : goal.returns-in-Waits-clause-heard
+returns-in-Waits-clause-heard g c =
+    subst (λ (s : Stop g.row.K.Denot g.row.V.Denot g.row.E.Denot). IfSome (heard_in c.after_wait.result) (IsHeard (Ends (MayEnd g.L.Listener.quits) c.args.self.now.listener) (standing_at s c.args.flow.now)))
+    (sym c.in-Waits.is) c.after_wait.ensures.heard
+
+pub returns-in-Waits-clause-polled : goal.returns-in-Waits-clause-polled
+returns-in-Waits-clause-polled g c =
+    subst (λ (s : Stop g.row.K.Denot g.row.V.Denot g.row.E.Denot). over_in c.after_wait.result ≡ Some Pending → WasPolled g.L.Listener.pends c.args.self.now.listener (standing_at s c.args.flow.now))
+    (sym c.in-Waits.is) c.after_wait.ensures.polled
 
 pub returns-in-Waits-clause-cause : goal.returns-in-Waits-clause-cause
 returns-in-Waits-clause-cause g c = λ pending. inl (subst IsWaiting (sym c.in-Waits.is) tt)

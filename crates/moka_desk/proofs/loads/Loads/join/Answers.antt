@@ -1,7 +1,7 @@
-use Rattle.std.proofs.Common.{◌==◌, ◌+◌, ◌∷◌, ℕ, cond, nat_eq, unwrap_or, ap, ◌∙◌}
+use Rattle.std.proofs.Common.{◌∷◌, ℕ, nat_eq, unwrap_or, ◌∙◌}
 use Rattle.std.specs.HashMap.{get}
 use Rattle.std.specs.List.Sorted.{IsPermutation}
-use Rattle.moka_desk.proofs.Waiting.{count_put, counted_more, where_none}
+use Rattle.moka_desk.proofs.Waiting.{counted_more, where_none}
 use Rattle.moka_desk.proofs.loads.Loads.join.Goals as goal
 
 pub invariant_of-self-clause-all_are_counted : goal.invariant_of-self-clause-all_are_counted
@@ -10,9 +10,7 @@ invariant_of-self-clause-all_are_counted g c = λ n.
     let call = c.args.call in
     let owner = c.args.owner in
     let count : ℕ → ℕ = λ m. unwrap_or (get nat_eq s.readers m) 0 in
-    let more : IsPermutation ((call, owner) ∷ s.joined.entries) c.put-2.new.map.entries =
-    where_none (get nat_eq s.joined call) _ _ c.put-2.ensures.entries c.requires.apart in
-    ap (λ o. unwrap_or o 0) (c.put.ensures.updates.0 n)
-    ∙ count_put (owner == n) (c.readers_of-waiting.result + 1) (get nat_eq s.readers n)
-    ∙ ap (λ x. cond (owner == n) (x + 1) (count n)) c.readers_of-waiting.ensures.value
-    ∙ counted_more count s.joined.entries c.put-2.new.map.entries call owner n s.all_are_counted more
+    let more : IsPermutation ((call, owner) ∷ s.joined.entries) c.put.new.map.entries =
+    where_none (get nat_eq s.joined call) _ _ c.put.ensures.entries c.requires.apart in
+    c.count_one.ensures n
+    ∙ counted_more count s.joined.entries c.put.new.map.entries call owner n s.all_are_counted more

@@ -9,7 +9,7 @@ returns-in-Some g c = λ w s.
     let owner = c.in-Some.owner.now in
     let owned : w.owners load ≡ Some owner =
     sym (s.loads.owners load) ∙ get_same g.K.PartialEq.eq c.args.self.now.loads.owners load ∙ sym c.in-Some.ensures.value in
-    one_unsettled _ owner w.settled _ owned (c.contains_key.ensures ∙ ap is_some (s.loads.settled owner))
+    one_unsettled _ owner w.settled _ owned (c.has_at.ensures ∙ ap is_some (s.loads.settled owner))
 
 pub returns-in-None : goal.returns-in-None
 returns-in-None g c = λ w s.

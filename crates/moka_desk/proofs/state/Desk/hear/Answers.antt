@@ -1,7 +1,7 @@
 use Rattle.std.proofs.Common.{◌≡◌, true, sym, ◌∙◌, nat_eq}
 use Rattle.std.specs.HashMap.{get}
 use Rattle.moka_hist.specs.Visits.{is_running}
-use Rattle.moka_desk.specs.Notices.{notice_part, running}
+use Rattle.moka_desk.specs.Notices.{running}
 use Rattle.moka_desk.proofs.Allowed.{running_may_end, runs_where_kept}
 use Rattle.moka_desk.proofs.state.Desk.hear.Goals as goal
 
@@ -11,19 +11,4 @@ returns-clause-makes g c = λ w h.
     let here : c.is_running.result ≡ true = c.if-not-is_running.false in
     let runs : is_running w number ≡ true =
     sym (runs_where_kept (running number) (get nat_eq c.args.self.now.notices.running number) (w.notices number) (h.notices.running number)) ∙ sym c.is_running.ensures ∙ here in
-    record {
-      rules = h.rules;
-      clock = h.clock;
-      valid_after = h.valid_after;
-      predicates = h.predicates;
-      accessed = h.accessed;
-      turn = h.turn;
-      published = h.published;
-      last = h.last;
-      writes = h.writes;
-      loads = h.loads;
-      locks = h.locks;
-      notices = c.end.ensures.makes (notice_part w) h.notices (running_may_end (w.notices number) runs);
-      asks = h.asks;
-      listed = h.listed;
-    }
+    c.end.ensures.makes w h (running_may_end (w.notices number) runs)

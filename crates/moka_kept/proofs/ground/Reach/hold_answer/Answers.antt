@@ -39,6 +39,8 @@ returns-clause-kept g c =
         one_locker = sound.one_locker;
         locks = sound.locks;
         locked = sound.locked;
+        keeps = sound.keeps;
+        apart = sound.apart;
         one_id = sound.one_id;
       };
       log = kept.log;

@@ -3,7 +3,7 @@ use Rattle.std.proofs.Common.{None, inl, inr, refl, sym, subst}
 use Rattle.moka_init.specs.FlowPlan.{call_of, tested_in}
 use Rattle.moka_kept.specs.Taking.{Brings}
 use Rattle.moka_kept.specs.declared.brought.Brought.{Brought}
-use Rattle.moka_kept.specs.Stops.{StopIs, stop_after, task_in}
+use Rattle.moka_kept.specs.Stops.{StopIs, kept_in, stop_after, task_in}
 use Rattle.moka_kept.specs.declared.stop.Stop.{Stop}
 use Rattle.moka_kept.proofs.Stopping.{came_here, came_to_on, came_to_weaker, left_going, stops_on, stops_weaker}
 use Rattle.moka_kept.proofs.kept.Kept.make_steps.Goals as goal
@@ -26,11 +26,12 @@ returns-then-not-goes_on-clause-stops g c =
     let given = Brings (tested_in (call_of mid).plan) c.replace.result in
     let such = Brings (tested_in (call_of flow).plan) c.args.brought in
     let task = task_in c.stop_after.result in
+    let kept = kept_in c.stop_after.result in
     subst (λ (s : Stop g.row.K.Denot g.row.V.Denot g.row.E.Denot). StopIs eq such flow s new) (sym c.stop_after.ensures.stop)
-    (stops_on eq such flow mid (stop_after task new.call made) new c.loop.invariant.came
+    (stops_on eq such flow mid (stop_after task kept new.call made) new c.loop.invariant.came
     (stops_weaker eq given such
-    (λ t is. c.loop.invariant.brings t (subst (λ (b : Brought g.row.V.Denot g.row.E.Denot). Brings (tested_in (call_of mid).plan) b t) c.replace.ensures.value is)) mid (stop_after task new.call made) new
-    (c.one_step-made.ensures.stops task)))
+    (λ t is. c.loop.invariant.brings t (subst (λ (b : Brought g.row.V.Denot g.row.E.Denot). Brings (tested_in (call_of mid).plan) b t) c.replace.ensures.value is)) mid (stop_after task kept new.call made) new
+    (c.one_step-made.ensures.stops task kept c.stop_after.ensures.finds)))
 
 pub loop-preserved : goal.loop-preserved
 loop-preserved g c =
@@ -40,7 +41,7 @@ loop-preserved g c =
     let new = c.one_step-made.new.flow in
     let given = Brings (tested_in (call_of mid).plan) c.replace.result in
     let such = Brings (tested_in (call_of flow).plan) c.args.brought in
-    let left = left_going eq given mid c.one_step-made.result new c.if-not-goes_on.ensures (c.one_step-made.ensures.stops None) in
+    let left = left_going eq given mid c.one_step-made.result new c.if-not-goes_on.ensures (c.one_step-made.ensures.stops None None tt) in
     record {
       came = came_to_on eq such flow mid new c.loop.invariant.came
           (came_to_weaker eq given such

@@ -13,11 +13,11 @@ use Rattle.moka_kept.proofs.kept.Kept.one_step.Goals as goal
 
 pub returns-in-None : goal.returns-in-None
 returns-in-None g c =
-    record { stops = λ task. came_here g.K.PartialEq.eq (Brings (tested_in (call_of c.args.flow.now).plan) c.args.brought) c.args.flow.now c.requires.rests }
+    record { stops = λ task kept finds. came_here g.K.PartialEq.eq (Brings (tested_in (call_of c.args.flow.now).plan) c.args.brought) c.args.flow.now c.requires.rests }
 
 pub returns-in-Some : goal.returns-in-Some
 returns-in-Some g c = record {
-  stops = λ task. stops_made g.K.PartialEq.eq (Brings (tested_in (call_of c.args.flow.now).plan) c.args.brought) c.args.flow.now c.step.result c.step.new.flow task c.requires.rests
+  stops = λ task kept finds. stops_made g.K.PartialEq.eq (Brings (tested_in (call_of c.args.flow.now).plan) c.args.brought) c.args.flow.now c.step.result c.step.new.flow task kept finds c.requires.rests
       c.step.ensures.number c.step.ensures.begun c.step.ensures.leaves (by c.args.brought _ refl refl) c.step.ensures.err;
 }
   where

@@ -1,5 +1,5 @@
 -- The visit is the one that is wanted.
-use Rattle.std.proofs.Common.{◌≡◌, refl, subst}
+use Rattle.std.proofs.Common.{refl, subst}
 use Rattle.moka_hist.specs.Step.{Access}
 use Rattle.moka_hist.specs.declared.accesses.Want.TheVariants as want
 use Rattle.moka_hist.specs.declared.visits.Visit.TheVariants as visit

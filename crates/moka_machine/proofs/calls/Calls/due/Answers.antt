@@ -1,25 +1,23 @@
 -- After the loop no place is left, and the visits are those of all places.
-use Rattle.std.proofs.Common.{◌≡◌, ◌++◌, ◌∷◌, sym, ap, arith, option_to_list, ◌∙◌}
+use Rattle.std.proofs.Common.{◌≡◌, ◌++◌, sym, ap, arith, option_to_list, ◌∙◌}
 use Rattle.std.proofs.lemmas.Grind.{common_steps}
-use Rattle.std.specs.HashMap.{values}
 use Rattle.std.specs.List.{filter_map}
 use Rattle.std.specs.Option.{option_and_then}
-use Rattle.moka_machine.specs.Calls.{due_in}
-use Rattle.moka_machine.proofs.Newest.{all_due, one_more_due}
+use Rattle.moka_machine.specs.Calls.{due_in, of_others}
+use Rattle.moka_machine.proofs.Newest.{all_due, one_more}
 use Rattle.moka_machine.proofs.calls.Calls.due.Goals as goal
 
 pub returns : goal.returns
 returns g c = λ numbered.
     let s = c.args.self.now in
-    let all : c.loop-place.visits.items ≡ option_to_list (option_and_then due_in s.newest) ++ filter_map due_in (values s.places) = grind (arith, common_steps) in
-    all_due s.last s.newest s.places.entries c.values-place-items.ensures.unique s.before c.loop-place.visits.items all numbered
+    let all : c.loop-call.visits.items ≡ option_to_list (option_and_then due_in s.newest) ++ filter_map (of_others s.last due_in) s.places.entries = grind (arith, common_steps) in
+    all_due s.last s.newest s.places.entries c.iter-call-items.ensures.unique c.loop-call.visits.items all numbered
 
-pub loop-place-preserved-in-Continue-branch-4 : goal.loop-place-preserved-in-Continue-branch-4
-loop-place-preserved-in-Continue-branch-4 g c =
+pub loop-call-preserved : goal.loop-call-preserved
+loop-call-preserved g c =
     let s = c.args.self.now in
-    let visits = c.loop-place.visits.items in
-    let rest = c.next.new.self in
-    let all = option_to_list (option_and_then due_in s.newest) ++ filter_map due_in (values s.places) in
-    let was : visits ++ filter_map due_in (c.in-Some.place.now ∷ rest) ≡ all = sym (ap (λ ps. visits ++ filter_map due_in ps) c.in-Some.ensures.steps) ∙ c.loop-place.invariant in
-    ap (λ vs. vs ++ filter_map due_in rest) c.in_ok-push.ensures.items
-    ∙ one_more_due visits c.in-Some.place.now rest c.in-Some-2.visit all (sym c.in_ok-visit.ensures ∙ c.in-Some-2.is) was
+    let so_far = c.loop-call.visits.items in
+    let all = option_to_list (option_and_then due_in s.newest) ++ filter_map (of_others s.last due_in) s.places.entries in
+    one_more (of_others s.last due_in) so_far (c.in-Some.call.now, c.in-Some.place.now) c.next.new.self c.push_some.new.items.items all
+    (c.in_ok-push_some.ensures ∙ ap (λ o. so_far ++ option_to_list o) c.in_ok-visit.ensures)
+    (sym (ap (λ es. so_far ++ filter_map (of_others s.last due_in) es) c.in-Some.ensures.steps) ∙ c.loop-call.invariant)

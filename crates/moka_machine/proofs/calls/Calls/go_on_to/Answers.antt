@@ -1,23 +1,12 @@
 -- The newest call keeps its place, among the others.
-use Rattle.std.proofs.Common.{◌≡◌, ◌==◌, nat_eq, true, cond, Option, None, is_some, ap, subst, ◌∙◌}
+use Rattle.std.proofs.Common.{◌==◌, nat_eq, cond, ap, ◌∙◌}
 use Rattle.std.specs.HashMap.{get}
-use Rattle.moka_machine.specs.declared.call_places.Running.{Running}
-use Rattle.moka_machine.specs.Calls.{put_some}
-use Rattle.moka_machine.proofs.Newest.{gone_before, gone_on}
+use Rattle.moka_machine.proofs.Newest.{other_has}
 use Rattle.moka_machine.proofs.calls.Calls.go_on_to.Goals as goal
 
-pub invariant_of-self : goal.invariant_of-self
-invariant_of-self g c = record {
-  before = λ n is.
-      let s = c.args.self.now in
-      gone_before s.last c.args.call n s.newest (get nat_eq s.places n) c.if-self-call.true (s.before n)
-      (subst (λ (o : Option (Option (Running g.row.K.Denot g.row.V.Denot g.row.E.Denot))). is_some o ≡ true)
-      (c.put_some.ensures n ∙ ap (λ p. put_some p (s.last == n) (get nat_eq s.places n)) c.take.ensures.value) is);
-}
-
-pub returns-then-self-call-clause-same : goal.returns-then-self-call-clause-same
-returns-then-self-call-clause-same g c = λ n.
+pub returns-then-self-call-clause-others : goal.returns-then-self-call-clause-others
+returns-then-self-call-clause-others g c = λ n apart.
     let s = c.args.self.now in
-    ap (λ o. cond (c.args.call == n) o (get nat_eq c.put_some.new.places n)) c.take.ensures.after
-    ∙ ap (λ o. cond (c.args.call == n) None o) (c.put_some.ensures n ∙ ap (λ p. put_some p (s.last == n) (get nat_eq s.places n)) c.take.ensures.value)
-    ∙ gone_on s.last c.args.call n s.newest (get nat_eq s.places n) c.if-self-call.true (s.before n)
+    other_has c.args.call n c.take.new.self (get nat_eq c.set_place.new.places n) apart
+    ∙ c.set_place.ensures n
+    ∙ ap (λ o. cond (s.last == n) o (get nat_eq s.places n)) c.take.ensures.value

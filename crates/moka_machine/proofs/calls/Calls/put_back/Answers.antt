@@ -1,8 +1,8 @@
 -- The call is back in its place, which is that of the newest call or another.
-use Rattle.std.proofs.Common.{◌≡◌, ◌==◌, nat_eq, true, cond, Option, Some, IsSome, is_some, ap, subst, ◌∙◌}
+use Rattle.std.proofs.Common.{◌==◌, nat_eq, cond, Option, Some, IsSome, ap, subst, ◌∙◌}
 use Rattle.std.specs.HashMap.{get}
 use Rattle.moka_machine.specs.declared.call_places.Running.{Running}
-use Rattle.moka_machine.proofs.Newest.{kept_before, other_has, set_beside, set_newest}
+use Rattle.moka_machine.proofs.Newest.{other_has, set_beside, set_newest}
 use Rattle.moka_machine.proofs.calls.Calls.put_back.Goals as goal
 
 pub returns-then-call-self : goal.returns-then-call-self
@@ -15,16 +15,6 @@ put_back_among-requires g c =
     let s = c.args.self.now in
     subst (λ (o : Option (Option (Running g.row.K.Denot g.row.V.Denot g.row.E.Denot))). IsSome o)
     (other_has s.last c.args.call s.newest (get nat_eq s.places c.args.call) c.if-call-self.false) c.requires
-
-pub invariant_of-self-else-call-self : goal.invariant_of-self-else-call-self
-invariant_of-self-else-call-self g c = record {
-  before = λ n is.
-      let s = c.args.self.now in
-      let there : is_some (get nat_eq s.places c.args.call) ≡ true =
-      subst (λ (o : Option (Option (Running g.row.K.Denot g.row.V.Denot g.row.E.Denot))). IsSome o) (other_has s.last c.args.call s.newest (get nat_eq s.places c.args.call) c.if-call-self.false) c.requires in
-      kept_before s.last c.args.call n (Some (Some c.args.running)) (get nat_eq s.places c.args.call) (get nat_eq s.places n) (λ e. there) (s.before c.args.call) (s.before n)
-      (subst (λ (o : Option (Option (Running g.row.K.Denot g.row.V.Denot g.row.E.Denot))). is_some o ≡ true) (c.put_back_among.ensures n) is);
-}
 
 pub returns-else-call-self : goal.returns-else-call-self
 returns-else-call-self g c = λ n.

@@ -1,10 +1,9 @@
 -- The call is taken out of its place, which is that of the newest call or another.
-use Rattle.std.proofs.Common.{◌≡◌, ◌==◌, nat_eq, true, cond, Option, is_some, sym, ap, subst, ◌∙◌}
+use Rattle.std.proofs.Common.{◌≡◌, ◌==◌, nat_eq, cond, sym, ap, ◌∙◌}
 use Rattle.std.specs.HashMap.{get}
-use Rattle.moka_machine.specs.declared.call_places.Running.{Running}
 use Rattle.moka_machine.specs.Calls.{emptied, runs_in}
 use Rattle.moka_desk.proofs.WhoHolds.{same_number}
-use Rattle.moka_machine.proofs.Newest.{kept_before, left_some, newest_has, other_has, set_beside, set_newest, still_some}
+use Rattle.moka_machine.proofs.Newest.{left_some, newest_has, other_has, set_beside, set_newest}
 use Rattle.moka_machine.proofs.calls.Calls.take.Goals as goal
 
 pub returns-then-call-self-clause-taken : goal.returns-then-call-self-clause-taken
@@ -27,15 +26,6 @@ returns-then-call-self-clause-place g c =
     let s = c.args.self.now in
     left_some s.newest (cond (s.last == c.args.call) c.take_newest.new.newest (get nat_eq s.places c.args.call)) c.take_newest.result c.take_newest.ensures.taken
     (newest_has s.last c.args.call c.take_newest.new.newest (get nat_eq s.places c.args.call) c.if-call-self.true ∙ c.take_newest.ensures.left)
-
-pub invariant_of-self-else-call-self : goal.invariant_of-self-else-call-self
-invariant_of-self-else-call-self g c = record {
-  before = λ n is.
-      let s = c.args.self.now in
-      let there = get nat_eq s.places c.args.call in
-      kept_before s.last c.args.call n (emptied there) there (get nat_eq s.places n) (still_some there) (s.before c.args.call) (s.before n)
-      (subst (λ (o : Option (Option (Running g.row.K.Denot g.row.V.Denot g.row.E.Denot))). is_some o ≡ true) (c.take_among.ensures.rest n) is);
-}
 
 pub returns-else-call-self-clause-taken : goal.returns-else-call-self-clause-taken
 returns-else-call-self-clause-taken g c =

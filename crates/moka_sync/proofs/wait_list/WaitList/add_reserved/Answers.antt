@@ -1,24 +1,17 @@
 -- The call gets the next ticket and the first spare node.
-use Rattle.std.proofs.Common.{◌≡◌, ◌∙◌, ◌++◌, ◌∷◌, [], ◌-◌, ℕ, None, length, sym, ap, arith, length-append, length-drop, Bool, false}
+use Rattle.std.proofs.Common.{◌≡◌, ◌++◌, ◌∷◌, [], ◌-◌, length, ap, arith, length-append, length-drop}
 use Rattle.moka_sync.specs.Tickets.{ticket_of}
-use Rattle.moka_sync.specs.Waiting.{Waiting, waits}
-use Rattle.moka_sync.specs.WaitView.{view_of, IsWaitList}
-use Rattle.moka_sync.specs.declared.wait_list.WaitList.TheInside.{Inside}
+use Rattle.moka_sync.specs.Waiting.{Waiting}
 use Rattle.moka_sync.specs.Standing.{standing}
-use Rattle.moka_sync.proofs.Stands.{no-ticket, AreKept-list, AreKept-listed, Waiting-same}
+use Rattle.moka_sync.proofs.Stands.{unticketed, AreKept-list, AreKept-listed, Waiting-same}
 use Rattle.moka_sync.proofs.wait_list.WaitList.add_reserved.Goals as goal
-
--- a call that does not wait has no ticket
-free : (w : Inside) (v : Waiting) (call : ℕ) (answer : Bool) → view_of w ≡ v → IsWaitList w → answer ≡ waits call v.calls → answer ≡ false → ticket_of w.tickets call ≡ None
-free w v call answer is inv waiting absent =
-    no-ticket (ticket_of w.tickets) w.places w.next call inv.kept (ap (λ (u : Waiting). waits call u.calls) is ∙ sym waiting ∙ absent)
 
 pub give-requires : goal.give-requires
 give-requires c =
     let room : length c.self.inside.spare ≡ c.args.self.now.room = ap (λ (v : Waiting). v.room) c.self.view_is in
     record {
       room = omega arith;
-      free = free c.self.inside c.args.self.now c.args.call c.contains.result c.self.view_is c.self.invariant c.contains.ensures c.if-contains.false;
+      free = unticketed c.self.inside c.args.self.now c.args.call c.contains.result c.self.view_is c.self.invariant c.contains.ensures c.if-contains.false;
     }
 
 pub invariant_of-self : goal.invariant_of-self
@@ -26,7 +19,7 @@ invariant_of-self c =
     let w = c.self.inside in
     let f = ticket_of w.tickets in
     let g = ticket_of c.give.new.self in
-    let none = free w c.args.self.now c.args.call c.contains.result c.self.view_is c.self.invariant c.contains.ensures c.if-contains.false in
+    let none = unticketed w c.args.self.now c.args.call c.contains.result c.self.view_is c.self.invariant c.contains.ensures c.if-contains.false in
     let room : length w.spare ≡ c.args.self.now.room = ap (λ (v : Waiting). v.room) c.self.view_is in
     let listed = AreKept-listed f g w.places c.args.call w.next none c.give.ensures.given c.self.invariant.kept in
     record {
@@ -43,7 +36,7 @@ returns-clause-first c =
     let f = ticket_of w.tickets in
     let g = ticket_of c.give.new.self in
     let calls : standing f w.places ≡ c.args.self.now.calls = ap (λ (v : Waiting). v.calls) c.self.view_is in
-    let none = free w c.args.self.now c.args.call c.contains.result c.self.view_is c.self.invariant c.contains.ensures c.if-contains.false in
+    let none = unticketed w c.args.self.now c.args.call c.contains.result c.self.view_is c.self.invariant c.contains.ensures c.if-contains.false in
     let listed = AreKept-listed f g w.places c.args.call w.next none c.give.ensures.given c.self.invariant.kept in
     let room : length w.spare ≡ c.args.self.now.room = ap (λ (v : Waiting). v.room) c.self.view_is in
     let more : standing g c.seat.new.places ≡ c.args.self.now.calls ++ c.args.call ∷ [] =

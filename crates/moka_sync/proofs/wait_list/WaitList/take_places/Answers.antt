@@ -11,7 +11,7 @@ invariant_of-self c =
     let w = c.self.inside in
     let f = ticket_of w.tickets in
     let g = ticket_of c.forget.new.tickets in
-    let gone : (q : ℕ) → g q ≡ (if waits q (standing f w.places) then None else f q) = λ q. (rw c.sweep.ensures at (c.forget.ensures.gone q)) in
+    let gone : (q : ℕ) → g q ≡ (if waits q (standing f w.places) then None else f q) = λ q. (rw c.sweep_some.ensures at (c.forget.ensures.gone q)) in
     let none = tickets-gone f g w.places w.next c.self.invariant.kept gone in
     let empty : c.replace.new.dest ≡ [] = c.replace.ensures.after ∙ c.new.ensures in
     record {
