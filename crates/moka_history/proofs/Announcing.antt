@@ -8,12 +8,13 @@ use Rattle.moka_growth.specs.Maps.{IsElsewhere}
 use Rattle.moka_pairs.specs.Keys.{Agrees, Respects}
 use Rattle.moka_history.specs.declared.note.Note.TheVariants.{Announced}
 use Rattle.moka_history.specs.Entries.{Entry}
-use Rattle.moka_history.specs.States.{Door, Bucket, Ticket, Array, Row, State, IsPlaced, after, memory_of, words_in}
-use Rattle.moka_history.specs.Rules.{WasPut, IsOwned, IsDrawn, IsGood, Lasts}
+use Rattle.moka_history.specs.States.{Door, Bucket, Ticket, Array, Row, Next, State, IsPlaced, after, memory_of, words_in}
+use Rattle.moka_history.specs.Rules.{WasPut, AreLinked, IsOwned, IsDrawn, IsGood, Lasts}
 use Rattle.moka_history.proofs.Cells.{announced_keeps}
 use Rattle.moka_history.proofs.Lists.{no_item, one_item, front_get, more_get}
 use Rattle.moka_history.proofs.Named.{word_names}
-use Rattle.moka_history.proofs.Owners.{array_not_ticket, row_not_ticket}
+use Rattle.moka_history.proofs.Chains.{links_stay}
+use Rattle.moka_history.proofs.Owners.{array_not_ticket, next_not_ticket, row_not_ticket}
 use Rattle.moka_pairs.proofs.Names.{agrees_now}
 use Rattle.moka_history.proofs.Resting.{rests_sound, rests_later, rests_map}
 
@@ -48,7 +49,7 @@ module _ {K V : Type 0} (S : Type 0) (eq : K → K → Bool) (laws : IsEquivalen
   ]
 
   elsewhere : (i : ℕ) → IsElsewhere (memory_of s i) (memory_of drawn_state i)
-  elsewhere i = record { words = λ p a e. words.0 a; arrays = refl; rooted = refl; fresh = omega arith }
+  elsewhere i = record { words = λ p a e. words.0 a; arrays = refl; rooted = refl; fresh = omega (arith, is) }
 
   array_was : (k n : ℕ) (b : Bool) → slice_get drawn_state.cells k ≡ Some (Array n b) → slice_get s.cells k ≡ Some (Array n b)
   array_was k n b at = elim (more_get s.cells (Ticket ticket false) k (Array n b) at) [
@@ -60,6 +61,12 @@ module _ {K V : Type 0} (S : Type 0) (eq : K → K → Bool) (laws : IsEquivalen
   row_was k n b at = elim (more_get s.cells (Ticket ticket false) k (Row n b) at) [
     | inl old ↦ old
     | inr new ↦ absurd (row_not_ticket new.1)
+  ]
+
+  next_was : (k a t : ℕ) → slice_get drawn_state.cells k ≡ Some (Next a t) → slice_get s.cells k ≡ Some (Next a t)
+  next_was k a t at = elim (more_get s.cells (Ticket ticket false) k (Next a t) at) [
+    | inl old ↦ old
+    | inr new ↦ absurd (next_not_ticket new.1)
   ]
 
   later_owned : IsOwned drawn_state
@@ -84,6 +91,7 @@ module _ {K V : Type 0} (S : Type 0) (eq : K → K → Bool) (laws : IsEquivalen
       ]
     ];
     arrays = λ j k n b c e f. owned.arrays j k n b c (array_was j n b e) (array_was k n c f);
+    nexts = λ j k a t u e f. owned.nexts j k a t u (next_was j a t e) (next_was k a u f);
   }
     where
       past : (n k : ℕ) (b : Bool) → slice_get s.cells k ≡ Some (Ticket n b) → n ≡ ticket → ⊥
@@ -111,10 +119,15 @@ module _ {K V : Type 0} (S : Type 0) (eq : K → K → Bool) (laws : IsEquivalen
     planned = λ n high. drawn.planned n (omega (arith, is, high));
   }
 
+  later_linked : AreLinked drawn_state
+  later_linked = links_stay s good.linked drawn_state refl (omega (arith, is)) drawn.first (λ i. refl) (λ a. refl) (agrees_now s.plans)
+      (λ k n b e. (b, front_get s.cells (Ticket ticket false ∷ []) k (Array n b) e, λ h. h)) (λ k n b e. inl (array_was k n b e)) next_was
+
   pub announced_good : IsGood eq hash place drawn_state es
   announced_good = record {
     owned = later_owned;
     drawn = later_drawn;
+    linked = later_linked;
     sound = λ i below. rests_sound eq laws hash place respects s drawn_state grows i (good.sound i below) (elsewhere i);
     puts = λ i index n p below named at. (
         let (q, was, mine) = word_names eq hash place s es good i below index n (sym (ap (λ ws. node_of (word_at ws index)) (words.0 (suc i))) ∙ named) in
@@ -136,7 +149,9 @@ module _ {K V : Type 0} (S : Type 0) (eq : K → K → Bool) (laws : IsEquivalen
     arrays = λ a i k e. e;
     tickets = λ k n b e. (b, front_get s.cells (Ticket ticket false ∷ []) k (Ticket n b) e, λ h. h);
     announced = λ k n b e. (b, front_get s.cells (Ticket ticket false ∷ []) k (Array n b) e, λ h. h);
-    rows = λ k n b e. (b, front_get s.cells (Ticket ticket false ∷ []) k (Row n b) e, λ h. h);
+    rows = λ k n b e. inl (b, front_get s.cells (Ticket ticket false ∷ []) k (Row n b) e, λ h. h);
+    buckets = λ k w e. (w, front_get s.cells (Ticket ticket false ∷ []) k (Bucket w) e);
+    nexts = λ k a t e. (t, front_get s.cells (Ticket ticket false ∷ []) k (Next a t) e);
     pairs = grows;
     plans = agrees_now s.plans;
     later = λ i below. rests_later eq laws hash place respects s drawn_state grows i (good.sound i below) (elsewhere i);

@@ -1,31 +1,27 @@
 -- A table that was just opened.
-use Rattle.std.proofs.Common.{◌≡◌, ℕ, ◌+◌, ◌*◌, ◌<◌, ◌≤◌, Bool, true, false, [], ◌∷◌, map, length, replicate, Some, None, zero, suc, inl, inr, refl, sym, ap, subst, ◌∙◌, arith, ltb, if◌then◌else◌}
+use Rattle.std.proofs.Common.{◌≡◌, ℕ, ◌+◌, ◌*◌, ◌<◌, ◌≤◌, Bool, true, false, List, [], ◌∷◌, ◌++◌, map, length, length-append, replicate, Some, zero, suc, inl, inr, refl, sym, ap, subst, ◌∙◌, arith, ltb, if◌then◌else◌}
 use Rattle.std.proofs.lemmas.List.{length-replicate}
 use Rattle.std.proofs.Math.Nat.{mul-le-mul_right, suc-mul}
 use Rattle.std.proofs.lemmas.Bool.{cases_lt, lt-ltb, ltb-true}
 use Rattle.std.specs.Int.{IsPowerOfTwo}
 use Rattle.std.specs.List.{slice_get, range_with_len}
+use Rattle.std.specs.Option.{option_map}
 use Rattle.moka_words.specs.declared.words.Word.{Word}
 use Rattle.moka_words.specs.declared.words.Word.TheVariants.{Empty}
 use Rattle.moka_growth.specs.Sound.{IsSound, IsRoot}
 use Rattle.moka_growth.proofs.Making.{empty_is_root, one_is_sound}
+use Rattle.moka_history.proofs.Lists.{map_get, no_item, one_item}
 use Rattle.moka_history.specs.declared.note.Note.TheVariants.{Opened}
-use Rattle.moka_history.specs.States.{Door, Bucket, State, IsPlaced, after, first_keys, memory_of, unopened, word_in, words_in}
-
-no_item : {A : Type 0} {x : A} → None ≡ Some x → ⊥
-no_item e = cc
-
-one_item : {A : Type 0} {x y : A} → Some x ≡ Some y → x ≡ y
-one_item e = cc
+use Rattle.moka_history.specs.States.{Owner, Door, Bucket, Next, State, IsPlaced, after, first_keys, first_nexts, memory_of, unopened, word_in, words_in}
 
 -- rows of one length end where the next one begins
-row_end : (i n length : ℕ) → i < n → i * length + length ≤ n * length
+pub row_end : (i n length : ℕ) → i < n → i * length + length ≤ n * length
 row_end i n length below =
     let one = suc-mul i length in
     let more = mul-le-mul_right {m = suc i} {n = n} length (omega (arith, below)) in
     omega (arith, one, more)
 
-range_at : (a n i k : ℕ) → slice_get (range_with_len a n) i ≡ Some k → (k ≡ a + i) × (i < n)
+pub range_at : (a n i k : ℕ) → slice_get (range_with_len a n) i ≡ Some k → (k ≡ a + i) × (i < n)
 range_at a zero i k e = absurd (no_item e)
 range_at a (suc n) zero k e = let same = one_item e in (omega (arith, same), omega arith)
 range_at a (suc n) (suc i) k e =
@@ -45,14 +41,38 @@ first_at segments length (suc r) i k e = by (ltb r segments) refl e
     by true is f = let at = range_at (1 + r * length) length i k f in (r, refl, ltb-true r segments is, at.0, at.1)
     by false is f = absurd (no_item f)
 
-bucket_empty : (n k : ℕ) → k < n → word_in (replicate n (Bucket Empty)) k ≡ Empty
-bucket_empty zero k below = absurd (omega arith)
-bucket_empty (suc n) zero below = refl
-bucket_empty (suc n) (suc k) below = bucket_empty n k (omega arith)
+range_there : (a n k : ℕ) → k < n → slice_get (range_with_len a n) k ≡ Some (a + k)
+range_there a zero k low = absurd (omega arith)
+range_there a (suc n) zero low = ap Some (omega arith)
+range_there a (suc n) (suc k) low = range_there (a + 1) n k (omega arith) ∙ ap Some (omega arith)
 
-cell_empty : (n k : ℕ) → 1 ≤ k → k < 1 + n → word_in (Door ∷ replicate n (Bucket Empty)) k ≡ Empty
-cell_empty n zero some below = absurd (omega arith)
-cell_empty n (suc k) some below = bucket_empty n k (omega arith)
+-- what stands behind so many buckets
+behind : (n k i : ℕ) (more : List Owner) → k ≡ n + i → slice_get (replicate n (Bucket Empty) ++ more) k ≡ slice_get more i
+behind zero k i more at = ap (slice_get more) (omega (arith, at))
+behind (suc n) zero i more at = absurd (omega (arith, at))
+behind (suc n) (suc k) i more at = behind n k i more (omega (arith, at))
+
+-- the cell that names the array after the first one of a segment
+pub first_next : (segments length i : ℕ) → i < segments →
+    slice_get (Door ∷ (replicate (segments * length) (Bucket Empty) ++ first_nexts segments)) (1 + segments * length + i) ≡ Some (Next (suc i) 0)
+first_next segments length i below =
+    let at : 1 + segments * length + i ≡ suc (segments * length + i) = omega arith in
+    ap (slice_get (Door ∷ (replicate (segments * length) (Bucket Empty) ++ first_nexts segments))) at
+    ∙ (behind (segments * length) (segments * length + i) i (first_nexts segments) refl
+    ∙ (map_get (λ j. Next (suc j) 0) (range_with_len 0 segments) i
+    ∙ (ap (option_map (λ j. Next (suc j) 0)) (range_there 0 segments i below) ∙ ap (λ m. Some (Next (suc m) 0)) same)))
+  where
+    same : 0 + i ≡ i
+    same = omega arith
+
+bucket_empty : (more : List Owner) (n k : ℕ) → k < n → word_in (replicate n (Bucket Empty) ++ more) k ≡ Empty
+bucket_empty more zero k below = absurd (omega arith)
+bucket_empty more (suc n) zero below = refl
+bucket_empty more (suc n) (suc k) below = bucket_empty more n k (omega arith)
+
+cell_empty : (more : List Owner) (n k : ℕ) → 1 ≤ k → k < 1 + n → word_in (Door ∷ (replicate n (Bucket Empty) ++ more)) k ≡ Empty
+cell_empty more n zero some below = absurd (omega arith)
+cell_empty more n (suc k) some below = bucket_empty more n k (omega arith)
 
 all_empty : (f : ℕ → Word) (a n : ℕ) → ((k : ℕ) → a ≤ k → k < a + n → f k ≡ Empty) → map f (range_with_len a n) ≡ replicate n Empty
 all_empty f a zero h = refl
@@ -63,15 +83,16 @@ module _ (K V : Type 0) {S : Type 0} (segments length_is : ℕ) (hasher : S) whe
   abbrev pub opened : State K V
   opened = after {S = S} unopened (Opened segments length_is hasher)
 
-  many : length (opened.cells) ≡ suc (segments * length_is)
-  many = ap suc (length-replicate (segments * length_is) (Bucket Empty))
+  many : length (opened.cells) ≡ suc (segments * length_is + length (first_nexts segments))
+  many = ap suc (length-append (replicate (segments * length_is) (Bucket Empty)) (first_nexts segments)
+      ∙ ap (λ n. n + length (first_nexts segments)) (length-replicate (segments * length_is) (Bucket Empty)))
 
   pub words_are : (i : ℕ) → i < segments → words_in opened (suc i) ≡ replicate length_is Empty
   words_are i below =
       let rows = row_end i segments length_is below in
       ap (λ b. map (word_in opened.cells) (if b then range_with_len (1 + i * length_is) length_is else [])) (lt-ltb i segments below)
       ∙ all_empty (word_in opened.cells) (1 + i * length_is) length_is
-      (λ k low high. cell_empty (segments * length_is) k (omega (arith, low)) (omega (arith, high, rows)))
+      (λ k low high. cell_empty (first_nexts segments) (segments * length_is) k (omega (arith, low)) (omega (arith, high, rows)))
 
   -- rows are apart
   apart : (r q i j : ℕ) → i < length_is → j < length_is → 1 + r * length_is + i ≡ 1 + q * length_is + j → r ≡ q

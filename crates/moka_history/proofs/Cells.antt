@@ -4,8 +4,8 @@ use Rattle.std.specs.List.{slice_get}
 use Rattle.moka_words.specs.declared.words.Word.{Word}
 use Rattle.moka_words.specs.Effect.{SetsWord}
 use Rattle.moka_history.specs.declared.note.Note.{Note}
-use Rattle.moka_history.specs.declared.note.Note.TheVariants.{Announced, Changed, Sealed}
-use Rattle.moka_history.specs.States.{Owner, Door, Bucket, Ticket, Array, Row, State, IsPlaced, after, key_at, memory_of, spent, word_in, words_in}
+use Rattle.moka_history.specs.declared.note.Note.TheVariants.{Announced, Changed, Sealed, Copied}
+use Rattle.moka_history.specs.States.{Owner, Door, Bucket, Ticket, Array, Row, Next, State, IsPlaced, after, key_at, memory_of, spent, word_in, words_in}
 
 one_item : {A : Type 0} {x y : A} → Some x ≡ Some y → x ≡ y
 one_item e = cc
@@ -18,6 +18,7 @@ word_spent ticket (Bucket w ∷ cells) zero = refl
 word_spent ticket (Ticket n home ∷ cells) zero = refl
 word_spent ticket (Array n home ∷ cells) zero = refl
 word_spent ticket (Row n home ∷ cells) zero = refl
+word_spent ticket (Next a to ∷ cells) zero = refl
 word_spent ticket (x ∷ cells) (suc k) = word_spent ticket cells k
 
 spent_length : (ticket : ℕ) (cells : List Owner) → length (map (spent ticket) cells) ≡ length cells
@@ -158,5 +159,12 @@ module _ {K V : Type 0} (S : Type 0) (s : State K V) (placed : IsPlaced s) where
     pub sealed_sets : (note : Note K V S) → note ≡ Sealed array index to → (segment : ℕ) →
         SetsWord array index to (memory_of s segment) (memory_of (after s note) segment) × IsPlaced (after s note)
     sealed_sets note is segment =
+        subst (λ x. SetsWord array index to (memory_of s segment) (memory_of (after s x) segment) × IsPlaced (after s x)) (sym is)
+        ((sealed_here, sealed_elsewhere, record { arrays = refl; rooted = refl; fresh = refl }), sealed_placed)
+
+    -- a copy sets its word as a seal does
+    pub copied_sets : (note : Note K V S) → note ≡ Copied array index to → (segment : ℕ) →
+        SetsWord array index to (memory_of s segment) (memory_of (after s note) segment) × IsPlaced (after s note)
+    copied_sets note is segment =
         subst (λ x. SetsWord array index to (memory_of s segment) (memory_of (after s x) segment) × IsPlaced (after s x)) (sym is)
         ((sealed_here, sealed_elsewhere, record { arrays = refl; rooted = refl; fresh = refl }), sealed_placed)

@@ -1,5 +1,5 @@
 -- A word is exchanged by a call, and all stays good.
-use Rattle.std.proofs.Common.{◌≡◌, ◌≢◌, ◌⊎◌, ℕ, ◌+◌, ◌<◌, ◌≤◌, ◌==◌, Bool, true, false, cond, List, [], ◌∷◌, ◌++◌, map, length, set, Option, Some, None, zero, suc, inl, inr, refl, sym, ap, subst, ◌∙◌, arith}
+use Rattle.std.proofs.Common.{◌≡◌, ◌≢◌, ◌⊎◌, ℕ, ◌+◌, ◌<◌, ◌≤◌, ◌==◌, Bool, true, false, cond, List, [], ◌∷◌, ◌++◌, map, length, set, Option, Some, None, suc, inl, inr, refl, sym, ap, subst, ◌∙◌, arith}
 use Rattle.std.proofs.lemmas.Bool.{eqb-true, false≢true}
 use Rattle.std.proofs.lemmas.Bool.Decides.{eqb_tells}
 use Rattle.std.proofs.lemmas.List.{get_or-set_other, length-map}
@@ -27,15 +27,16 @@ use Rattle.moka_pairs.proofs.Divided.{segment_are}
 use Rattle.moka_pairs.proofs.Steps.{ends_after, later_after, sound_after}
 use Rattle.moka_history.specs.declared.note.Note.TheVariants.{Changed}
 use Rattle.moka_history.specs.Entries.{Entry, map_after, pair_put}
-use Rattle.moka_history.specs.States.{Owner, Door, Bucket, Ticket, Array, Row, State, IsPlaced, after, key_at, memory_of, spent, word_in, words_in}
+use Rattle.moka_history.specs.States.{Owner, Door, Bucket, Ticket, Array, Row, Next, State, IsPlaced, after, key_at, memory_of, spent, word_in, words_in}
 use Rattle.moka_history.specs.Logs.{entry_of, entry_with}
 use Rattle.moka_history.specs.Cells.{cell_of, number_of}
-use Rattle.moka_history.specs.Rules.{WasPut, made_on, keys_of, pair_in, IsOwned, IsDrawn, IsGood, Lasts}
+use Rattle.moka_history.specs.Rules.{WasPut, AreLinked, made_on, keys_of, pair_in, IsOwned, IsDrawn, IsGood, Lasts}
 use Rattle.moka_history.specs.Keeping.{Exchanges}
 use Rattle.moka_history.proofs.Cells.{changed_sets, key_there}
-use Rattle.moka_history.proofs.Lists.{no_item, one_item, front_get, get_below, get_or, last_get, set_get, map_more as maps_more, times_more}
+use Rattle.moka_history.proofs.Chains.{first_apart, links_stay}
+use Rattle.moka_history.proofs.Lists.{one_item, first_get, front_get, get_below, get_or, last_get, set_get, map_more as maps_more, times_more}
 use Rattle.moka_history.proofs.Maps.{change_is, legal_more, map_more, named_pair}
-use Rattle.moka_history.proofs.Owners.{bucket_is_no_ticket, changed_cells, door_is_no_bucket, changed_here, changed_other, changed_from, unspent_array, unspent_door, unspent_row, unspent_ticket, array_not_bucket, row_not_bucket, array_not_ticket, row_not_ticket}
+use Rattle.moka_history.proofs.Owners.{bucket_is_no_ticket, changed_cells, door_is_no_bucket, changed_here, changed_other, changed_from, unspent_array, unspent_door, unspent_next, unspent_row, unspent_ticket, array_not_bucket, next_not_bucket, row_not_bucket}
 use Rattle.moka_history.proofs.Resting.{rests_sound, rests_later, rests_map}
 
 not_door : {w : Word} → Door ≡ Bucket w → ⊥
@@ -43,11 +44,6 @@ not_door e = absurd (cc (e))
 
 not_ticket : {w : Word} {n : ℕ} {b : Bool} → Ticket n b ≡ Bucket w → ⊥
 not_ticket e = absurd (cc (e))
-
--- the array that a segment's only place has
-pub only_array : (x p a : ℕ) → slice_get (x ∷ []) p ≡ Some a → a ≡ x
-only_array x zero a e = sym (one_item e)
-only_array x (suc p) a e = absurd (no_item e)
 
 -- a key that a number has
 key_named : {K : Type 0} (test : K → Bool) (o : Option K) → option_map_or test o false ≡ true → (k : K) × (o ≡ Some k) × (test k ≡ true)
@@ -112,7 +108,7 @@ module _ {K V : Type 0} (S : Type 0) (eq : K → K → Bool) (laws : IsEquivalen
   fits = subst (λ p. FitsAt (hash_by hash known) (own_for eq known (Some key)) c.hash old p) x.call.comes (x.call.fits known (agrees_now known))
 
   pub is_root : array ≡ suc here
-  is_root = let rooted = fits.0.rooted in only_array (suc here) rooted.place array rooted.there
+  is_root = let rooted = fits.0.rooted in first_get (suc here) (s.links here) rooted.place array rooted.before rooted.there
 
   pub within : index < length (s.arrays array)
   within =
@@ -187,8 +183,7 @@ module _ {K V : Type 0} (S : Type 0) (eq : K → K → Bool) (laws : IsEquivalen
   -- other segments
   elsewhere : (i : ℕ) → i ≢ here → IsElsewhere (memory_of s i) (memory_of changed_state i)
   elsewhere i other = record {
-    words = λ p a e. (sets i).0.1 a
-        (λ same. let is = only_array (suc i) p a e in let root = is_root in other (omega (arith, same, is, root)));
+    words = λ p a e. (sets i).0.1 a (λ same. first_apart s good.linked i here p a other x.call.within e (same ∙ is_root));
     arrays = refl;
     rooted = refl;
     fresh = omega arith;
@@ -333,6 +328,14 @@ module _ {K V : Type 0} (S : Type 0) (eq : K → K → Bool) (laws : IsEquivalen
       let (p, was, is) = from_cell k (Row n b) at (λ e. row_not_bucket e) in
       was ∙ ap Some (unspent_row ticket p n b is)
 
+  from_next : (k a t : ℕ) → slice_get changed_state.cells k ≡ Some (Next a t) → slice_get s.cells k ≡ Some (Next a t)
+  from_next k a t at =
+      let (p, was, is) = from_cell k (Next a t) at (λ e. next_not_bucket e) in
+      was ∙ ap Some (unspent_next ticket p a t is)
+
+  stays_array : (k n : ℕ) (b : Bool) → slice_get s.cells k ≡ Some (Array n b) → slice_get changed_state.cells k ≡ Some (Array n b)
+  stays_array k n b at = changed_other ticket bucket to s.cells k (Array n b) (no_bucket k (Array n b) at (λ w e. array_not_bucket e)) at
+
   changed_bucket : (k : ℕ) (w : Word) → slice_get s.cells k ≡ Some (Bucket w) → (v : Word) × (slice_get changed_state.cells k ≡ Some (Bucket v))
   changed_bucket k w at = elim (eqb_tells k bucket) [
     | inl p ↦ (to, ap (slice_get changed_state.cells) p.1 ∙ changed_here ticket bucket to s.cells bucket_below)
@@ -350,7 +353,12 @@ module _ {K V : Type 0} (S : Type 0) (eq : K → K → Bool) (laws : IsEquivalen
     places = (sets here).1;
     tickets = λ j k n b d e f. owned.tickets j k n (from_ticket j n b e).0 (from_ticket k n d f).0 (from_ticket j n b e).1 (from_ticket k n d f).1;
     arrays = λ j k n b d e f. owned.arrays j k n b d (from_array j n b e) (from_array k n d f);
+    nexts = λ j k a t u e f. owned.nexts j k a t u (from_next j a t e) (from_next k a u f);
   }
+
+  later_linked : AreLinked changed_state
+  later_linked = links_stay s good.linked changed_state refl (omega arith) drawn.first (λ i. refl) (λ a. refl) (agrees_now s.plans)
+      (λ k n b e. (b, stays_array k n b e, λ h. h)) (λ k n b e. inl (from_array k n b e)) from_next
 
   -- the entries of tickets
   made : (n : ℕ) → made_on n longer ≡ cond (n == ticket) (made_on n es + 1) (made_on n es)
@@ -400,6 +408,7 @@ module _ {K V : Type 0} (S : Type 0) (eq : K → K → Bool) (laws : IsEquivalen
   changed_good = record {
     owned = later_owned;
     drawn = later_drawn;
+    linked = later_linked;
     sound = there_sound;
     puts = puts;
     legal = legal_more eq (λ k. None) es entry good.legal former_is;
@@ -416,8 +425,10 @@ module _ {K V : Type 0} (S : Type 0) (eq : K → K → Bool) (laws : IsEquivalen
       changed_other ticket bucket to s.cells k (Ticket n b) (ticket_apart k n b at) at,
       λ home. home_by (n == ticket) b home,
     );
-    announced = λ k n b at. (b, changed_other ticket bucket to s.cells k (Array n b) (no_bucket k (Array n b) at (λ w e. array_not_bucket e)) at, λ h. h);
-    rows = λ k n b at. (b, changed_other ticket bucket to s.cells k (Row n b) (no_bucket k (Row n b) at (λ w e. row_not_bucket e)) at, λ h. h);
+    announced = λ k n b at. (b, stays_array k n b at, λ h. h);
+    rows = λ k n b at. inl (b, changed_other ticket bucket to s.cells k (Row n b) (no_bucket k (Row n b) at (λ w e. row_not_bucket e)) at, λ h. h);
+    buckets = changed_bucket;
+    nexts = λ k a t at. (t, changed_other ticket bucket to s.cells k (Next a t) (no_bucket k (Next a t) at (λ w e. next_not_bucket e)) at);
     pairs = agrees_now s.pairs;
     plans = agrees_now s.plans;
     later = there_later;

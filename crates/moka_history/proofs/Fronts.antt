@@ -25,12 +25,12 @@ use Rattle.moka_pairs.proofs.Steps.{fits_last}
 use Rattle.moka_history.specs.declared.note.Note.{Note}
 use Rattle.moka_history.specs.declared.note.Note.TheVariants.{Opened}
 use Rattle.moka_history.specs.Entries.{Entry, map_after}
-use Rattle.moka_history.specs.States.{Door, Bucket, Ticket, State, first_keys, memory_of, word_in, word_of, words_in}
+use Rattle.moka_history.specs.States.{Door, Bucket, Next, Ticket, State, first_keys, memory_of, word_in, word_of, words_in}
 use Rattle.moka_history.specs.Logs.{entries_of, state_of}
 use Rattle.moka_history.specs.Cells.{cell_of, cells_of, drawn, number_of}
 use Rattle.moka_history.specs.Rules.{made_on, keys_of, IsGood, Lasts, IsOpenedFor, IsFront, NamesSeal, IsKept}
 use Rattle.moka_history.specs.Keeping.{ArePut, IsDivided}
-use Rattle.moka_history.proofs.Beginning.{words_are}
+use Rattle.moka_history.proofs.Beginning.{first_next, words_are}
 use Rattle.moka_history.proofs.Folds.{entries_begin, entries_grow}
 use Rattle.moka_history.proofs.Named.{array_is, word_names}
 use Rattle.moka_history.proofs.Lists.{no_item, one_item, get_below, get_or, map_get, prefix_self, prefix_through}
@@ -122,6 +122,10 @@ module _ {K V S : Type 0} (eq : K → K → Bool) (hash : S → K → ℕ) (plac
     pub row_now : (index : ℕ) → index < kept.size → slice_get ((state_of log).arrays (suc i)) index ≡ Some (1 + i * kept.size + index)
     row_now index inside = first_lasts.arrays (suc i) index (1 + i * kept.size + index) (row_at kept.segments kept.size i index below inside)
 
+    -- the cell that names the array after the segment's first one
+    pub next_now : (a : ℕ) × (slice_get (state_of log).cells (1 + kept.segments * kept.size + i) ≡ Some (Next (suc i) a))
+    next_now = first_lasts.nexts (1 + kept.segments * kept.size + i) (suc i) 0 (first_next kept.segments kept.size i below)
+
     pub length_now : length (words_in (state_of log) (suc i)) ≡ kept.size
     length_now =
         ((first_lasts.later i below (keys_of Place (state_of log) i) (agrees_now (keys_of Place (state_of log) i))).words 0 (suc i) refl
@@ -207,12 +211,13 @@ module _ {K V S : Type 0} (eq : K → K → Bool) (hash : S → K → ℕ) (plac
         let once = good_now.drawn.once ticket in
         omega (arith, one, grown, all, once)
 
-    -- a word that isn't as it was is sealed, or has an entry
-    pub entry_between : (array index : ℕ) → word_at (words_in (state_of log) array) index ≢ word_at (words_in (state_of front) array) index →
-        (is_sealed (word_at (words_in (state_of log) array) index) ≡ true)
+    -- a word of a first array that isn't as it was is sealed, or has an entry
+    pub entry_between : (i index : ℕ) → i < kept.segments →
+        word_at (words_in (state_of log) (suc i)) index ≢ word_at (words_in (state_of front) (suc i)) index →
+        (is_sealed (word_at (words_in (state_of log) (suc i)) index) ≡ true)
         ⊎ ((e : Entry K V) × (slice_get (entries_of log) (length (entries_of front)) ≡ Some e)
         × ((own ticket : ℕ) → slice_get (state_of log).cells own ≡ Some (Ticket ticket false) → e.ticket ≢ ticket))
-    entry_between array index differs = elim (cases_lt (length (entries_of front)) (length (entries_of log))) [
+    entry_between i index below differs = elim (cases_lt (length (entries_of front)) (length (entries_of log))) [
       | inl less ↦ inr (let (e, at) = item_at (entries_of log) (length (entries_of front)) less in (
         e,
         at,
@@ -222,7 +227,7 @@ module _ {K V S : Type 0} (eq : K → K → Bool) (hash : S → K → ℕ) (plac
             omega (arith, some, none),
       ))
       | inr more ↦ elim (kept.still front log is (prefix_self log)
-          (let grown = entries_grow front log is.begins in omega (arith, more, grown)) array index) [
+          (let grown = entries_grow front log is.begins in omega (arith, more, grown)) i index below) [
             | inl same ↦ absurd (differs same)
             | inr sealed ↦ inl sealed
           ]

@@ -6,10 +6,17 @@ pub mod Lists
 pub mod Numbers
 pub mod Owners
 pub mod Named
+pub mod Chains
 pub mod Resting
 pub mod Quiet
 pub mod Rows
+pub mod Setting
 pub mod Sealing
+pub mod Copying
+pub mod Joined
+pub mod Renumbered
+pub mod Linking
+pub mod There
 pub mod Announcing
 pub mod Exchanged
 pub mod Opening
@@ -18,3 +25,4 @@ pub mod Stepping
 pub mod Steps
 pub mod Plays
 pub mod Moves
+pub mod Grows

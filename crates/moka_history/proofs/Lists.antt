@@ -44,6 +44,18 @@ module _ {A : Type 0} where
     | inr p ↦ inr (p.1, sym (other_get xs k j x p.1) ∙ at)
   ]
 
+  -- a list is what stands at its places
+  pub list_is : (xs ys : List A) → ((k : ℕ) → slice_get xs k ≡ slice_get ys k) → xs ≡ ys
+  list_is [] [] same = refl
+  list_is [] (y ∷ ys) same = absurd (no_item (same 0))
+  list_is (x ∷ xs) [] same = absurd (no_item (sym (same 0)))
+  list_is (x ∷ xs) (y ∷ ys) same = ap (λ v. v ∷ xs) (one_item (same 0)) ∙ ap (λ vs. y ∷ vs) (list_is xs ys (λ k. same (suc k)))
+
+  -- the item at a place before the second
+  pub first_get : (x : A) (xs : List A) (p : ℕ) (y : A) → p < 1 → slice_get (x ∷ xs) p ≡ Some y → y ≡ x
+  first_get x xs zero y below e = sym (one_item e)
+  first_get x xs (suc p) y below e = absurd (omega (arith, below))
+
   pub front_get : (xs ys : List A) (k : ℕ) (x : A) → slice_get xs k ≡ Some x → slice_get (xs ++ ys) k ≡ Some x
   front_get [] ys k x e = absurd (no_item e)
   front_get (y ∷ xs) ys zero x e = e
@@ -87,6 +99,10 @@ pub map_get : {A B : Type 0} (f : A → B) (xs : List A) (k : ℕ) → slice_get
 map_get f [] k = refl
 map_get f (x ∷ xs) zero = refl
 map_get f (x ∷ xs) (suc k) = map_get f xs k
+
+pub map_length : {A B : Type 0} (f : A → B) (xs : List A) → length (map f xs) ≡ length xs
+map_length f [] = refl
+map_length f (x ∷ xs) = ap suc (map_length f xs)
 
 pub map_more : {A B : Type 0} (f : A → B) (xs : List A) (x : A) → map f (xs ++ x ∷ []) ≡ map f xs ++ f x ∷ []
 map_more f [] x = refl

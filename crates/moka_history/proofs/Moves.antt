@@ -1,7 +1,7 @@
 -- Steps of rows and seals over the words of a book, whatever it is when they are made.
-use Rattle.std.proofs.Common.{◌≡◌, ℕ, ◌+◌, ◌^◌, ◌<◌, ◌≤◌, ◌==◌, Bool, true, false, cond, List, [], ◌∷◌, ◌++◌, length, set, Option, Some, None, IsSome, suc, inl, inr, refl, sym, ap, subst, ◌∙◌, arith}
+use Rattle.std.proofs.Common.{◌≡◌, ℕ, ◌+◌, ◌^◌, ◌<◌, ◌≤◌, ◌==◌, Bool, true, false, List, [], ◌∷◌, ◌++◌, length, set, Option, Some, None, IsSome, suc, inl, inr, refl, sym, ap, subst, ◌∙◌, arith}
 use Rattle.std.proofs.lemmas.Bool.{eqb-true, false≢true}
-use Rattle.std.proofs.lemmas.List.{append-nil, length-map}
+use Rattle.std.proofs.lemmas.List.{length-map}
 use Rattle.std.specs.List.{slice_get}
 use Rattle.std.specs.Option.{is_some}
 use mathlib.Core.List.{IsPrefix}
@@ -14,18 +14,18 @@ use Rattle.moka_growth.specs.Growing.{seal_of}
 use Rattle.moka_pairs.specs.Keys.{Agrees}
 use Rattle.moka_history.specs.declared.note.Note.{Note}
 use Rattle.moka_history.specs.declared.note.Note.TheVariants.{ArrayAnnounced, CellAdded, CellHome, Sealed}
-use Rattle.moka_history.specs.States.{Row, State, key_at, memory_of, word_in, words_in}
-use Rattle.moka_history.specs.Logs.{entries_of, state_of}
+use Rattle.moka_history.specs.States.{Bucket, Row, State, key_at, memory_of, word_in, words_in}
+use Rattle.moka_history.specs.Logs.{state_of}
 use Rattle.moka_history.specs.Cells.{drawn, number_of}
-use Rattle.moka_history.specs.Rules.{IsFront, IsKept, Holds}
+use Rattle.moka_history.specs.Rules.{IsFront, IsRowStill, IsKept, Holds}
 use Rattle.moka_history.specs.Keeping.{IsBare, IsDivided, IsSmall}
-use Rattle.moka_history.specs.Moving.{Added, Adds, AnnouncesArray, BringsHome, IsHome, Seals, moved, shown}
-use Rattle.moka_history.proofs.Exchanged.{only_array}
+use Rattle.moka_history.specs.Moving.{Adds, AnnouncesArray, BringsHome, IsHome, Seals, moved, shown}
 use Rattle.moka_history.proofs.Fronts.{cell_now, cells_now, good_now, lasts_now, segments_are, words_have_pairs}
-use Rattle.moka_history.proofs.Lists.{get_below, get_or}
+use Rattle.moka_history.proofs.Lists.{first_get, get_below, get_or}
 use Rattle.moka_history.proofs.Numbers.{numbers_tell}
 use Rattle.moka_history.proofs.Owners.{set_same}
 use Rattle.moka_history.proofs.Plays.{place_home, same_holds, same_looks, there}
+use Rattle.moka_history.proofs.Resting.{row_through}
 use Rattle.moka_history.proofs.Steps.{adding_cell, adding_entries, adding_holds, announcing_cell, announcing_entries, announcing_holds, announcing_plan, bringing_cell, bringing_entries, bringing_holds, sealing_entries, sealing_holds}
 
 -- an exchange for the number that was expected leaves what it meets
@@ -108,12 +108,17 @@ module _ {K V S : Type 0} (eq : K → K → Bool) (hash : S → K → ℕ) (plac
     key_home : (key < length cs) × ((cell cs key).1 ≡ true)
     key_home = elim home [
       | inl at ↦ place_home eq hash place front some cs log holds pre key at
-      | inr row ↦ (
-          let (c, there_now, stays) = (lasts_now eq hash place log holds.1 front is_front).rows key row.0 true row.1 in
-          let held = cell_now eq hash place log holds.1 cs holds.0 key (Row row.0 c) there_now in
-          (held.0, ap (λ x. x.1) held.1 ∙ stays refl)
-          )
+      | inr row ↦ by row.0 (row_through eq (place holds.1.hasher holds.1.segments)
+          (state_of front) (state_of log) (lasts_now eq hash place log holds.1 front is_front) key row.0 true row.1)
     ]
+      where
+        by : (ticket : ℕ) → IsRowStill (state_of log) key ticket true → (key < length cs) × ((cell cs key).1 ≡ true)
+        by ticket (inl (c, there_now, stays)) =
+            let held = cell_now eq hash place log holds.1 cs holds.0 key (Row ticket c) there_now in
+            (held.0, ap (λ x. x.1) held.1 ∙ stays refl)
+        by ticket (inr (w, there_now, own)) =
+            let held = cell_now eq hash place log holds.1 cs holds.0 key (Bucket w) there_now in
+            (held.0, ap (λ x. x.1) held.1)
 
     -- the exchange leaves the cells
     left_cells : (left : ℕ) → set cs key (either ((cell cs key).0 == left) left (cell cs key).0, true) ≡ cs
@@ -151,10 +156,16 @@ module _ {K V S : Type 0} (eq : K → K → Bool) (hash : S → K → ℕ) (plac
     row_now : (cs : List Cell) (log : List (Note K V S)) (holds : Holds eq hash place cs log) (pre : IsPrefix front log) → Away (nib may_write own 1) cs →
         slice_get (state_of log).cells own ≡ Some (Row ticket false)
     row_now cs log holds pre away =
-        let (c, there_now, stays) = (lasts_now eq hash place log holds.1 front (record { some = some; begins = pre })).rows own ticket was_home at in
-        let held = cell_now eq hash place log holds.1 cs holds.0 own (Row ticket c) there_now in
-        let is_away : c ≡ false = sym (ap (λ y. y.1) held.1) ∙ (away refl).1 in
-        there_now ∙ ap (λ y. Some (Row ticket y)) is_away
+        by ((lasts_now eq hash place log holds.1 front (record { some = some; begins = pre })).rows own ticket was_home at)
+      where
+        by : IsRowStill (state_of log) own ticket was_home → slice_get (state_of log).cells own ≡ Some (Row ticket false)
+        by (inl (c, there_now, stays)) =
+            let held = cell_now eq hash place log holds.1 cs holds.0 own (Row ticket c) there_now in
+            let is_away : c ≡ false = sym (ap (λ y. y.1) held.1) ∙ (away refl).1 in
+            there_now ∙ ap (λ y. Some (Row ticket y)) is_away
+        by (inr (w, there_now, home_now)) =
+            let held = cell_now eq hash place log holds.1 cs holds.0 own (Bucket w) there_now in
+            absurd (false≢true (sym (away refl).1 ∙ ap (λ y. y.1) held.1))
 
     pub cell_bringing_moves : Moves (Holds eq hash place) shown moved key (front, (nib may_write own 1, None)) (λ n. either (n == left) left n)
         (BringsHome eq hash place (step key left left (CellHome ticket own)) (front, (nib may_write own 1, None)))
@@ -208,7 +219,7 @@ module _ {K V S : Type 0} (eq : K → K → Bool) (hash : S → K → ℕ) (plac
       home = ap (λ y. y.1) held.1
 
       is_root : array ≡ suc segment
-      is_root = only_array (suc segment) rooted.place array rooted.there
+      is_root = first_get (suc segment) ((state_of front).links segment) rooted.place array rooted.before rooted.there
 
       now_small : IsSmall (word_at (words_in now array) index)
       now_small n names = (words_have_pairs eq hash place log kept segment (subst (λ m. segment < m) (segments_are eq hash place log kept) within_now) index n
@@ -217,7 +228,7 @@ module _ {K V S : Type 0} (eq : K → K → Bool) (hash : S → K → ℕ) (plac
       open_now : word_at (words_in now array) index ≡ word → IsBare now segment array index word
       open_now found = record {
         within = within_now;
-        rooted = record { place = rooted.place; before = rooted.before; there = rooted.there };
+        rooted = record { place = 0; before = omega arith; there = ap Some (sym is_root) };
         inside = (let inside = get_below (now.arrays array) index bucket row_there in let long = length-map (now.arrays array) (word_in now.cells) in omega (arith, inside, long));
         there = found;
         bare = bare;

@@ -77,3 +77,13 @@ module _ (v w : Word) (small : IsSmall v) (few : IsSmall w) (same : number_of v 
 
   pub numbers_tell : v ≡ w
   numbers_tell = sym (word_is v) ∙ (ap (λ k. word_by k (rest v)) kinds ∙ (ap (word_by (kind w)) rests ∙ word_is w))
+
+-- 1 is the number of an unset word alone
+pub one_is_unset : (w : Word) → number_of w ≡ 1 → w ≡ Unset
+one_is_unset Empty e = absurd (omega (arith, e))
+one_is_unset Unset e = refl
+one_is_unset SealedEmpty e = absurd (omega (arith, e))
+one_is_unset (Live n) e = absurd (omega (arith, e))
+one_is_unset (Tomb n) e = absurd (omega (arith, e))
+one_is_unset (SealedLive n) e = absurd (omega (arith, e))
+one_is_unset (SealedTomb n) e = absurd (omega (arith, e))

@@ -1,5 +1,5 @@
 -- The book of a table that was just opened keeps the rule.
-use Rattle.std.proofs.Common.{◌≡◌, ℕ, ◌+◌, ◌-◌, ◌*◌, ◌^◌, ◌<◌, ◌≤◌, Bool, true, false, if◌then◌else◌, List, [], ◌∷◌, map, length, replicate, Option, Some, None, zero, suc, inl, inr, refl, sym, ap, subst, ◌∙◌, arith, length-append}
+use Rattle.std.proofs.Common.{◌≡◌, ◌⊎◌, ℕ, ◌+◌, ◌-◌, ◌*◌, ◌^◌, ◌<◌, ◌≤◌, Bool, true, false, if◌then◌else◌, List, [], ◌∷◌, ◌++◌, map, length, replicate, Option, Some, None, zero, suc, inl, inr, refl, sym, ap, subst, ◌∙◌, arith, length-append}
 use Rattle.std.proofs.lemmas.Bool.{cases_lt, false≢true, le-ltb}
 use Rattle.std.specs.Int.{IsPowerOfTwo}
 use Rattle.std.specs.List.{slice_get, find, range_with_len}
@@ -12,14 +12,14 @@ use Rattle.moka_pairs.specs.Keys.{hash_by, same_by, mine_by, own_by}
 use Rattle.moka_pairs.specs.Pairs.{pair_at}
 use Rattle.moka_history.specs.declared.note.Note.{Note}
 use Rattle.moka_history.specs.declared.note.Note.TheVariants.{Opened}
-use Rattle.moka_history.specs.States.{Owner, Door, Bucket, Ticket, Array, Row, State, memory_of, word_in, words_in}
+use Rattle.moka_history.specs.States.{Owner, Door, Bucket, Ticket, Array, Row, Next, State, first_keys, first_nexts, memory_of, word_in, words_in}
 use Rattle.moka_history.specs.Logs.{entries_of, state_of}
 use Rattle.moka_history.specs.Cells.{cell_of}
-use Rattle.moka_history.specs.Rules.{keys_of, IsOwned, IsDrawn, IsGood, Lasts, IsFront, IsKept, Holds}
+use Rattle.moka_history.specs.Rules.{keys_of, AreLinked, IsOwned, IsDrawn, IsGood, Lasts, IsFront, IsKept, Holds}
 use Rattle.moka_history.specs.Keeping.{IsDivided}
-use Rattle.moka_history.proofs.Beginning.{first_at, opened_is, placed, words_are}
-use Rattle.moka_history.proofs.Lists.{no_item, one_item, prefix_more, prefix_through}
-use Rattle.moka_history.proofs.Owners.{array_not_bucket, door_not_array, door_not_row, row_not_bucket}
+use Rattle.moka_history.proofs.Beginning.{first_at, opened_is, placed, range_at, row_end, words_are}
+use Rattle.moka_history.proofs.Lists.{no_item, one_item, front_get, prefix_more, prefix_through, unmap_get}
+use Rattle.moka_history.proofs.Owners.{array_not_bucket, door_not_array, door_not_next, door_not_row, next_is_next, next_not_array, next_not_bucket, next_not_row, next_not_ticket, row_not_bucket}
 use Rattle.moka_history.proofs.Resting.{lasts_same}
 
 door_not_bucket : {w : Word} → Bucket w ≡ Door → ⊥
@@ -37,24 +37,38 @@ bucket_not_array e = array_not_bucket (sym e)
 bucket_not_row : {w : Word} {n : ℕ} {b : Bool} → Bucket w ≡ Row n b → ⊥
 bucket_not_row e = row_not_bucket (sym e)
 
--- the cells of buckets alone
-alike_at : {A : Type 0} (n k : ℕ) (x y : A) → slice_get (replicate n x) k ≡ Some y → x ≡ y
-alike_at zero k x y e = absurd (no_item e)
-alike_at (suc n) zero x y e = one_item e
-alike_at (suc n) (suc k) x y e = alike_at n k x y e
+-- the cells of buckets, and those after them
+alike_at : {A : Type 0} (n k : ℕ) (x y : A) (more : List A) → slice_get (replicate n x ++ more) k ≡ Some y →
+    (x ≡ y) ⊎ ((j : ℕ) × (k ≡ n + j) × (slice_get more j ≡ Some y))
+alike_at zero k x y more e = inr (k, omega arith, e)
+alike_at (suc n) zero x y more e = inl (one_item e)
+alike_at (suc n) (suc k) x y more e = elim (alike_at n k x y more e) [
+  | inl p ↦ inl p
+  | inr p ↦ inr (p.0, (let at = p.1 in omega (arith, at)), p.2)
+]
+
+-- each of these names the array after a segment's first one: none
+next_at : (segments j : ℕ) (o : Owner) → slice_get (first_nexts segments) j ≡ Some o → (j < segments) × (o ≡ Next (suc j) 0)
+next_at segments j o e =
+    let (i, at, is) = unmap_get (λ i. Next (suc i) 0) (range_with_len 0 segments) j o e in
+    let (same, below) = range_at 0 segments j i at in
+    let index : i ≡ j = omega (arith, same) in
+    (below, is ∙ ap (λ m. Next (suc m) 0) index)
 
 alike_there : {A : Type 0} (n k : ℕ) (x : A) → k < n → slice_get (replicate n x) k ≡ Some x
 alike_there zero k x below = absurd (omega arith)
 alike_there (suc n) zero x below = refl
 alike_there (suc n) (suc k) x below = alike_there n k x (omega arith)
 
-alike_length : {A : Type 0} (n : ℕ) (x : A) → length (replicate n x) ≡ n
-alike_length zero x = refl
-alike_length (suc n) x = ap suc (alike_length n x)
+empty_nexts : (a n d : ℕ) → map (cell_of d) (map (λ i. Next (suc i) 0) (range_with_len a n)) ≡ replicate n (0, true)
+empty_nexts a zero d = refl
+empty_nexts a (suc n) d = ap (λ cs. (0, true) ∷ cs) (empty_nexts (a + 1) n d)
 
-empty_cells : (n d : ℕ) → map (cell_of d) (replicate n (Bucket Empty)) ≡ replicate n (0, true)
-empty_cells zero d = refl
-empty_cells (suc n) d = ap (λ cs. (0, true) ∷ cs) (empty_cells n d)
+empty_cells : (n m d : ℕ) → map (cell_of d) (replicate n (Bucket Empty) ++ first_nexts m) ≡ replicate (n + m) (0, true)
+empty_cells zero m d = let all : m ≡ 0 + m = omega arith in empty_nexts 0 m d ∙ ap (λ k. replicate k (0, true)) all
+empty_cells (suc n) m d =
+    let all : suc (n + m) ≡ suc n + m = omega arith in
+    ap (λ cs. (0, true) ∷ cs) (empty_cells n m d) ∙ ap (λ k. replicate k (0, true)) all
 
 no_node : (n k : ℕ) → node_of (word_at (replicate n Empty) k) ≡ None
 no_node zero k = refl
@@ -87,29 +101,46 @@ module _ {K : Type 0} (V : Type 0) {S : Type 0} (eq : K → K → Bool) (hash : 
   abbrev Place : K → ℕ
   Place = place hasher segments
 
-  bucket_at_suc : (k : ℕ) (o : Owner) → slice_get opened.cells (suc k) ≡ Some o → Bucket Empty ≡ o
-  bucket_at_suc k o at = alike_at (segments * size) k (Bucket Empty) o at
+  cell_at_suc : (k : ℕ) (o : Owner) → slice_get opened.cells (suc k) ≡ Some o →
+      (Bucket Empty ≡ o) ⊎ ((j : ℕ) × (k ≡ segments * size + j) × (j < segments) × (o ≡ Next (suc j) 0))
+  cell_at_suc k o at = elim (alike_at (segments * size) k (Bucket Empty) o (first_nexts segments) at) [
+    | inl p ↦ inl p
+    | inr p ↦ (let (below, is) = next_at segments p.0 o p.2 in inr (p.0, p.1, below, is))
+  ]
 
   only_door : (k : ℕ) → slice_get opened.cells k ≡ Some Door → k ≡ 0
   only_door zero at = refl
-  only_door (suc k) at = absurd (door_not_bucket (bucket_at_suc k Door at))
+  only_door (suc k) at = elim (cell_at_suc k Door at) [ inl p ↦ absurd (door_not_bucket p) | inr p ↦ absurd (door_not_next p.3) ]
 
   no_ticket : (k n : ℕ) (b : Bool) → slice_get opened.cells k ≡ Some (Ticket n b) → ⊥
   no_ticket zero n b at = door_not_ticket (one_item at)
-  no_ticket (suc k) n b at = bucket_not_ticket (bucket_at_suc k (Ticket n b) at)
+  no_ticket (suc k) n b at = elim (cell_at_suc k (Ticket n b) at) [ inl p ↦ bucket_not_ticket p | inr p ↦ next_not_ticket (sym p.3) ]
 
-  bucket_there : (k : ℕ) → 1 ≤ k → k < length opened.cells → slice_get opened.cells k ≡ Some (Bucket Empty)
+  bucket_there : (k : ℕ) → 1 ≤ k → k < suc (segments * size) → slice_get opened.cells k ≡ Some (Bucket Empty)
   bucket_there zero low below = absurd (omega arith)
-  bucket_there (suc k) low below = alike_there (segments * size) k (Bucket Empty)
-      (let long = alike_length (segments * size) (Bucket Empty) in omega (arith, below, long))
+  bucket_there (suc k) low below = front_get (replicate (segments * size) (Bucket Empty)) (first_nexts segments) k (Bucket Empty)
+      (alike_there (segments * size) k (Bucket Empty) (omega (arith, below)))
 
   no_array : (k n : ℕ) (b : Bool) → slice_get opened.cells k ≡ Some (Array n b) → ⊥
   no_array zero n b at = door_not_array (one_item at)
-  no_array (suc k) n b at = bucket_not_array (bucket_at_suc k (Array n b) at)
+  no_array (suc k) n b at = elim (cell_at_suc k (Array n b) at) [ inl p ↦ bucket_not_array p | inr p ↦ next_not_array (sym p.3) ]
 
   no_row : (k n : ℕ) (b : Bool) → slice_get opened.cells k ≡ Some (Row n b) → ⊥
   no_row zero n b at = door_not_row (one_item at)
-  no_row (suc k) n b at = bucket_not_row (bucket_at_suc k (Row n b) at)
+  no_row (suc k) n b at = elim (cell_at_suc k (Row n b) at) [ inl p ↦ bucket_not_row p | inr p ↦ next_not_row (sym p.3) ]
+
+  -- the cells that name the array after a first one
+  next_there : (k a t : ℕ) → slice_get opened.cells k ≡ Some (Next a t) →
+      (j : ℕ) × (k ≡ suc (segments * size + j)) × (j < segments) × (a ≡ suc j) × (t ≡ 0)
+  next_there zero a t at = absurd (door_not_next (one_item at))
+  next_there (suc k) a t at = elim (cell_at_suc k (Next a t) at) [
+    | inl p ↦ absurd (next_not_bucket (sym p))
+    | inr p ↦ (let (array_is, none) = next_is_next p.3 in (p.0, ap suc p.1, p.2, array_is, none))
+  ]
+
+  no_words : (n : ℕ) → segments < n → first_keys segments size n ≡ []
+  no_words zero high = refl
+  no_words (suc i) high = ap (λ b. if b then range_with_len (1 + i * size) size else []) (le-ltb i segments (omega (arith, high)))
 
   -- no word is sealed
   bare : (a index : ℕ) → is_sealed (word_at (words_in opened a) index) ≡ true → ⊥
@@ -130,10 +161,25 @@ module _ {K : Type 0} (V : Type 0) {S : Type 0} (eq : K → K → Bool) (hash : 
     door = λ k. (only_door k, λ e. subst (λ j. slice_get opened.cells j ≡ Some Door) (sym e) refl);
     buckets = λ a i k e.
         let (r, is, below, at, inside) = first_at segments size a i k e in
-        (Empty, bucket_there k (omega (arith, at)) ((placed K V segments size hasher).within a i k e));
+        let rows = row_end r segments size below in
+        (Empty, bucket_there k (omega (arith, at)) (omega (arith, at, inside, rows)));
     places = placed K V segments size hasher;
     tickets = λ j k n b c e f. absurd (no_ticket j n b e);
     arrays = λ j k n b c e f. absurd (no_array j n b e);
+    nexts = λ j k a t u e f.
+        let (p, at, below, is, none) = next_there j a t e in
+        let (q, at_yet, below_yet, is_yet, none_yet) = next_there k a u f in
+        omega (arith, at, at_yet, is, is_yet);
+  }
+
+  linked : AreLinked opened
+  linked = record {
+    numbers = λ k n home at. absurd (no_array k n home at);
+    home = λ i p a at. absurd (no_item at);
+    planned = λ i p a at. absurd (no_item at);
+    unmade = λ k n at. absurd (no_array k n false at);
+    past = λ n high. no_words n high;
+    nexts = λ k a t at. (let (j, key_is, below, is, none) = next_there k a t at in (j, is, below, none));
   }
 
   drawn : IsDrawn opened []
@@ -153,6 +199,7 @@ module _ {K : Type 0} (V : Type 0) {S : Type 0} (eq : K → K → Bool) (hash : 
   good = record {
     owned = owned;
     drawn = drawn;
+    linked = linked;
     sound = λ i below keys agrees. (opened_is K V segments size hasher (hash_by (hash hasher) keys) (same_by eq keys) (mine_by keys) i power below).0;
     puts = λ i index n p below named at.
         absurd (no_item (sym (ap (λ ws. node_of (word_at ws index)) (words_are K V segments size hasher i below) ∙ no_node size index) ∙ named));
@@ -172,10 +219,10 @@ module _ {K : Type 0} (V : Type 0) {S : Type 0} (eq : K → K → Bool) (hash : 
         let next_is = alone next (record { some = longer front next is; begins = begins }) in
         subst (λ l. Lasts eq Place (state_of front) (state_of l)) (front_is ∙ sym next_is)
         (lasts_same eq divided.laws (hash hasher) Place (divided.hashed hasher) (state_of front));
-    still = λ front next is begins equal array index.
+    still = λ front next is begins equal i index below.
         let front_is = alone front (record { some = is.some; begins = prefix_through front next first is.begins begins }) in
         let next_is = alone next (record { some = longer front next is; begins = begins }) in
-        inl (ap (λ l. word_at (words_in (state_of l) array) index) (next_is ∙ sym front_is));
+        inl (ap (λ l. word_at (words_in (state_of l) (suc i)) index) (next_is ∙ sym front_is));
     seals = λ front is array index sealed. absurd (bare array index (ap (λ l. is_sealed (word_at (words_in (state_of l) array) index)) (sym (alone front is)) ∙ sealed));
   }
     where
@@ -189,10 +236,10 @@ module _ {K : Type 0} (V : Type 0) {S : Type 0} (eq : K → K → Bool) (hash : 
           let some = is.some in
           omega (arith, all, long, some)
 
-  pub opening_holds : Holds eq hash place (replicate (suc (segments * size)) (0, true)) first
+  pub opening_holds : Holds eq hash place (replicate (suc (segments * size + segments)) (0, true)) first
   opening_holds = (
-    ap (λ cs. (0, true) ∷ cs) (sym (empty_cells (segments * size) (segments - segments)))
-        ∙ ap (λ d. (d, true) ∷ map (cell_of (segments - segments)) (replicate (segments * size) (Bucket Empty))) none,
+    ap (λ cs. (0, true) ∷ cs) (sym (empty_cells (segments * size) segments (segments - segments)))
+        ∙ ap (λ d. (d, true) ∷ map (cell_of (segments - segments)) (replicate (segments * size) (Bucket Empty) ++ first_nexts segments)) none,
     kept,
   )
     where

@@ -6,9 +6,13 @@ use Rattle.std.specs.List.{slice_get}
 use Rattle.std.specs.Option.{option_map}
 use Rattle.logbook.specs.Pages.{Cell, cell}
 use Rattle.moka_words.specs.declared.words.Word.{Word}
-use Rattle.moka_history.specs.States.{Owner, Door, Bucket, Ticket, Array, Row, spent}
+use Rattle.moka_history.specs.States.{Owner, Door, Bucket, Ticket, Array, Row, Next, spent}
 use Rattle.moka_history.specs.Cells.{number_of, cell_of}
 use Rattle.moka_history.proofs.Lists.{no_item, one_item, set_get, other_get, unmap_get, map_get, map_set}
+
+-- a cell of this owner stays, and stays home
+abbrev pub Stays : (ℕ → Bool → Owner) → (old new : List Owner) → Type 0
+Stays o old new = (k n : ℕ) (b : Bool) → slice_get old k ≡ Some (o n b) → (c : Bool) × (slice_get new k ≡ Some (o n c)) × (b ≡ true → c ≡ true)
 
 -- a word that is left as it is
 pub set_same : (cells : List Cell) (k : ℕ) → (cell cells k).1 ≡ true → set cells k ((cell cells k).0, true) ≡ cells
@@ -46,6 +50,24 @@ row_not_ticket e = absurd (cc (e))
 pub array_not_row : {n m : ℕ} {b c : Bool} → Array n b ≡ Row m c → ⊥
 array_not_row e = absurd (cc (e))
 
+pub door_not_next : {a t : ℕ} → Door ≡ Next a t → ⊥
+door_not_next e = absurd (cc (e))
+
+pub next_not_bucket : {w : Word} {a t : ℕ} → Next a t ≡ Bucket w → ⊥
+next_not_bucket e = absurd (cc (e))
+
+pub next_not_ticket : {a t n : ℕ} {b : Bool} → Next a t ≡ Ticket n b → ⊥
+next_not_ticket e = absurd (cc (e))
+
+pub next_not_array : {a t n : ℕ} {b : Bool} → Next a t ≡ Array n b → ⊥
+next_not_array e = absurd (cc (e))
+
+pub next_not_row : {a t n : ℕ} {b : Bool} → Next a t ≡ Row n b → ⊥
+next_not_row e = absurd (cc (e))
+
+pub next_is_next : {a b t u : ℕ} → Next a t ≡ Next b u → (a ≡ b) × (t ≡ u)
+next_is_next e = (cc (e), cc (e))
+
 pub row_is_row : {n m : ℕ} {b c : Bool} → Row n b ≡ Row m c → (n ≡ m) × (b ≡ c)
 row_is_row e = (cc (e), cc (e))
 
@@ -69,6 +91,7 @@ others_stay (Bucket w ∷ os) d e none = ap (λ cs. (number_of w, true) ∷ cs) 
 others_stay (Ticket n b ∷ os) d e none = ap (λ cs. (0, b) ∷ cs) (others_stay os d e (λ k. none (suc k)))
 others_stay (Array n b ∷ os) d e none = ap (λ cs. (0, b) ∷ cs) (others_stay os d e (λ k. none (suc k)))
 others_stay (Row n b ∷ os) d e none = ap (λ cs. (cond b 1 0, b) ∷ cs) (others_stay os d e (λ k. none (suc k)))
+others_stay (Next a t ∷ os) d e none = ap (λ cs. (t, true) ∷ cs) (others_stay os d e (λ k. none (suc k)))
 
 -- the door's cell counts another number
 pub door_counts : (os : List Owner) (d e : ℕ) → slice_get os 0 ≡ Some Door → ((k : ℕ) → slice_get os k ≡ Some Door → k ≡ 0) →
@@ -88,6 +111,7 @@ module _ (t : ℕ) where
   ]
   spent_other (Array n b) other = refl
   spent_other (Row n b) other = refl
+  spent_other (Next a u) other = refl
 
   all_other : (os : List Owner) → ((k : ℕ) (b : Bool) → slice_get os k ≡ Some (Ticket t b) → ⊥) → map (spent t) os ≡ os
   all_other [] none = refl
@@ -114,12 +138,14 @@ module _ (t : ℕ) where
   unspent_door (Ticket n b) e = absurd (door_not_ticket e)
   unspent_door (Array n b) e = absurd (door_not_array e)
   unspent_door (Row n b) e = absurd (door_not_row e)
+  unspent_door (Next a u) e = absurd (door_not_next e)
 
   pub unspent_ticket : (o : Owner) (n : ℕ) (b : Bool) → Ticket n b ≡ spent t o → (c : Bool) × (o ≡ Ticket n c) × (b ≡ cond (n == t) true c)
   unspent_ticket Door n b e = absurd (door_not_ticket (sym e))
   unspent_ticket (Bucket w) n b e = absurd (not_ticket (sym e))
   unspent_ticket (Array m c) n b e = absurd (array_not_ticket (sym e))
   unspent_ticket (Row m c) n b e = absurd (row_not_ticket (sym e))
+  unspent_ticket (Next a u) n b e = absurd (next_not_ticket (sym e))
   unspent_ticket (Ticket m c) n b e = by (cc (e)) (cc (e))
     where
       by : n ≡ m → b ≡ cond (m == t) true c → (c' : Bool) × (Ticket m c ≡ Ticket n c') × (b ≡ cond (n == t) true c')
@@ -131,6 +157,7 @@ module _ (t : ℕ) where
   unspent_array (Ticket m c) n b e = absurd (array_not_ticket e)
   unspent_array (Array m c) n b e = sym e
   unspent_array (Row m c) n b e = absurd (array_not_row e)
+  unspent_array (Next a u) n b e = absurd (next_not_array (sym e))
 
   pub unspent_row : (o : Owner) (n : ℕ) (b : Bool) → Row n b ≡ spent t o → o ≡ Row n b
   unspent_row Door n b e = absurd (door_not_row (sym e))
@@ -138,6 +165,15 @@ module _ (t : ℕ) where
   unspent_row (Ticket m c) n b e = absurd (row_not_ticket e)
   unspent_row (Array m c) n b e = absurd (array_not_row (sym e))
   unspent_row (Row m c) n b e = sym e
+  unspent_row (Next a u) n b e = absurd (next_not_row (sym e))
+
+  pub unspent_next : (o : Owner) (a u : ℕ) → Next a u ≡ spent t o → o ≡ Next a u
+  unspent_next Door a u e = absurd (door_not_next (sym e))
+  unspent_next (Bucket w) a u e = absurd (next_not_bucket e)
+  unspent_next (Ticket m c) a u e = absurd (next_not_ticket e)
+  unspent_next (Array m c) a u e = absurd (next_not_array e)
+  unspent_next (Row m c) a u e = absurd (next_not_row e)
+  unspent_next (Next b v) a u e = sym e
 
 -- the owners after a change of the bucket k
 module _ (t k : ℕ) (to : Word) (os : List Owner) where

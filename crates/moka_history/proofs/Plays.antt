@@ -23,15 +23,14 @@ use Rattle.moka_history.specs.Cells.{drawn, number_of}
 use Rattle.moka_history.specs.Rules.{keys_of, IsFront, IsOpenedFor, IsKept, Holds}
 use Rattle.moka_history.specs.Keeping.{Comes, IsDivided, IsSmall}
 use Rattle.moka_history.specs.Moving.{Announces, Changes, HoldsThere, IsPlace, Looks, moved, shown}
-use Rattle.moka_history.proofs.Exchanged.{only_array}
 use Rattle.moka_history.proofs.Fronts.{cell_now, cells_now, fits_more, fits_still, good_now, lasts_now, opened_too, segments_are, words_have_pairs}
-use Rattle.moka_history.proofs.Lists.{get_or}
+use Rattle.moka_history.proofs.Lists.{first_get, get_or}
 use Rattle.moka_history.proofs.Numbers.{numbers_tell}
 use Rattle.moka_history.proofs.Owners.{set_same}
 use Rattle.moka_history.proofs.Stepping.{announcing_holds, changing_holds}
 
 -- a log was opened in one way
-opened_same : {K V S : Type 0} (n m a b : ℕ) (s t : S) (log : List (Note K V S)) → IsOpenedFor n a s log → IsOpenedFor m b t log → (n ≡ m) × (s ≡ t)
+pub opened_same : {K V S : Type 0} (n m a b : ℕ) (s t : S) (log : List (Note K V S)) → IsOpenedFor n a s log → IsOpenedFor m b t log → (n ≡ m) × (s ≡ t)
 opened_same n m a b s t log p q = (cc (p.1, q.1), cc (p.1, q.1))
 
 map_first : {A B C : Type 0} (f : A → C) (o : Option (A × B)) → option_map (λ p. f p.0) o ≡ option_map f (option_map (λ p. p.0) o)
@@ -150,7 +149,7 @@ module _ {K V S : Type 0} (eq : K → K → Bool) (hash : S → K → ℕ) (plac
           let known = keys_of p (state_of front) (p key) in
           let rooted = (subst (λ q. FitsAt (hash_by (hash hasher) known) (own_for eq known (Some key)) c.hash (memory_of (state_of front) (p key)) q) x.comes
           (x.fits known (agrees_now known))).0.rooted in
-          only_array (suc (p key)) rooted.place array rooted.there
+          first_get (suc (p key)) ((state_of front).links (p key)) rooted.place array rooted.before rooted.there
 
       module _ (cs : List Cell) (log : List (Note K V S)) (holds : Holds eq hash place cs log) (pre : IsPrefix front log)
           (away : Away (nib may_write own 0) cs) where

@@ -1,8 +1,7 @@
 -- Segments whose words a step leaves, and what lasts through steps.
-use Rattle.std.proofs.Common.{◌≡◌, ℕ, ◌<◌, ◌==◌, Bool, true, List, [], ◌∷◌, ◌++◌, length, Option, Some, inl, inr, refl, sym, ap, subst, ◌∙◌, arith}
+use Rattle.std.proofs.Common.{◌≡◌, ℕ, ◌<◌, ◌==◌, Bool, true, List, [], ◌∷◌, ◌++◌, length, Option, Some, suc, inl, inr, refl, sym, ap, subst, ◌∙◌, arith}
 use Rattle.std.specs.Cmp.{IsEquivalence}
 use mathlib.Core.List.{IsPrefix}
-use Rattle.std.specs.List.{slice_get}
 use Rattle.moka_words.specs.declared.words.Word.{Word}
 use Rattle.moka_words.specs.Words.{is_sealed, word_at}
 use Rattle.moka_words.specs.Effect.{LaterMemory}
@@ -19,12 +18,24 @@ use Rattle.moka_pairs.proofs.Mapped.{map_kept}
 use Rattle.moka_pairs.proofs.Steps.{later_same}
 use Rattle.moka_history.specs.declared.note.Note.{Note}
 use Rattle.moka_history.specs.declared.note.Note.TheVariants.{Sealed}
-use Rattle.moka_history.specs.States.{State, memory_of, words_in}
+use Rattle.moka_history.specs.States.{Array, State, memory_of, words_in}
 use Rattle.moka_history.specs.Logs.{entries_of, state_of}
-use Rattle.moka_history.specs.Rules.{keys_of, pair_in, IsGood, Lasts, IsFront, IsSameOrSealed, NamesSeal, IsKept}
+use Rattle.moka_history.specs.Rules.{keys_of, pair_in, IsGood, IsRowStill, Lasts, IsFront, IsSameOrSealed, NamesSeal, IsKept}
 use Rattle.moka_history.specs.Keeping.{IsDivided}
 use Rattle.moka_history.proofs.Folds.{entries_grow}
 use Rattle.moka_history.proofs.Lists.{front_get, prefix_more, prefix_self}
+
+-- a cell that was a row's
+pub row_through : {K V : Type 0} (eq : K → K → Bool) (place : K → ℕ) (b c : State K V) → Lasts eq place b c → (k n : ℕ) (x : Bool) →
+    IsRowStill b k n x → IsRowStill c k n x
+row_through eq place b c then k n x (inl (y, at, home)) = elim (then.rows k n y at) [
+  | inl still ↦ inl (still.0, still.1, λ h. still.2 (home h))
+  | inr made ↦ inr made
+]
+row_through eq place b c then k n x (inr (w, at, (own, there))) =
+    let (v, at_yet) = then.buckets k w at in
+    let (z, there_yet, home) = then.announced own n true there in
+    inr (v, at_yet, (own, there_yet ∙ ap (λ d. Some (Array n d)) (home refl)))
 
 module _ {K V : Type 0} (eq : K → K → Bool) (laws : IsEquivalence eq) (hash place : K → ℕ) (respects : Respects eq hash) where
   -- a segment that a step leaves stays sound, and its map as it was, while more numbers get pairs
@@ -59,7 +70,9 @@ module _ {K V : Type 0} (eq : K → K → Bool) (laws : IsEquivalence eq) (hash 
     arrays = λ a i k e. e;
     tickets = λ k n b e. (b, e, λ h. h);
     announced = λ k n b e. (b, e, λ h. h);
-    rows = λ k n b e. (b, e, λ h. h);
+    rows = λ k n b e. inl (b, e, λ h. h);
+    buckets = λ k w e. (w, e);
+    nexts = λ k a t e. (t, e);
     pairs = agrees_now s.pairs;
     plans = agrees_now s.plans;
     later = λ i below. later_same eq laws hash respects (keys_of place s i) (memory_of s i);
@@ -78,10 +91,9 @@ module _ {K V : Type 0} (eq : K → K → Bool) (laws : IsEquivalence eq) (hash 
         let (y, at, home) = first.announced k n x e in
         let (z, there, home_yet) = then.announced k n y at in
         (z, there, λ h. home_yet (home h));
-    rows = λ k n x e.
-        let (y, at, home) = first.rows k n x e in
-        let (z, there, home_yet) = then.rows k n y at in
-        (z, there, λ h. home_yet (home h));
+    rows = λ k n x e. row_through eq place b c then k n x (first.rows k n x e);
+    buckets = λ k w e. (let (v, at) = first.buckets k w e in then.buckets k v at);
+    nexts = λ k n t e. (let (u, at) = first.nexts k n t e in then.nexts k n u at);
     pairs = agrees_through c.pairs b.pairs a.pairs then.pairs first.pairs;
     plans = agrees_through c.plans b.plans a.plans then.plans first.plans;
     later = λ i below keys agrees. later_memory_goes_on (hash_by hash keys) (same_by eq keys) (memory_of a i) (memory_of b i) (memory_of c i)
@@ -112,8 +124,8 @@ module _ {K V S : Type 0} (eq : K → K → Bool) (hash : S → K → ℕ) (plac
   Longer = log ++ note ∷ []
 
   module _ (good : IsGood eq (hash kept.hasher) Place (state_of Longer) (entries_of Longer)) (lasts : Lasts eq Place (state_of log) (state_of Longer))
-      (rests_words : length (entries_of Longer) ≡ length (entries_of log) → (array index : ℕ) →
-      IsSameOrSealed (word_at (words_in (state_of log) array) index) (word_at (words_in (state_of Longer) array) index))
+      (rests_words : length (entries_of Longer) ≡ length (entries_of log) → (i index : ℕ) → i < kept.segments →
+      IsSameOrSealed (word_at (words_in (state_of log) (suc i)) index) (word_at (words_in (state_of Longer) (suc i)) index))
       (named : (array index : ℕ) → is_sealed (word_at (words_in (state_of Longer) array) index) ≡ true →
       NamesSeal array index (word_at (words_in (state_of Longer) array) index) Longer) where
     same : (s : State K V) → Lasts eq Place s s
@@ -129,25 +141,25 @@ module _ {K V S : Type 0} (eq : K → K → Bool) (hash : S → K → ℕ) (plac
       | inr e ↦ subst (λ l. Lasts eq Place (state_of front) (state_of l)) e (same (state_of front))
     ]
 
-    -- words change by entries and seals alone
-    abbrev Stays : (front next : List (Note K V S)) (array index : ℕ) → Type 0
-    Stays front next array index = IsSameOrSealed (word_at (words_in (state_of front) array) index) (word_at (words_in (state_of next) array) index)
+    -- words of first arrays change by entries and seals alone
+    abbrev Stays : (front next : List (Note K V S)) (i index : ℕ) → Type 0
+    Stays front next i index = IsSameOrSealed (word_at (words_in (state_of front) (suc i)) index) (word_at (words_in (state_of next) (suc i)) index)
 
-    still_log : (front : List (Note K V S)) → IsFront front log → length (entries_of Longer) ≡ length (entries_of front) → (array index : ℕ) →
-        Stays front Longer array index
-    still_log front is equal array index =
+    still_log : (front : List (Note K V S)) → IsFront front log → length (entries_of Longer) ≡ length (entries_of front) → (i index : ℕ) →
+        i < kept.segments → Stays front Longer i index
+    still_log front is equal i index below =
         let some = entries_grow front log is.begins in
         let more = entries_grow log Longer (note ∷ [], refl) in
-        stays_through (word_at (words_in (state_of front) array) index) (word_at (words_in (state_of log) array) index)
-        (word_at (words_in (state_of Longer) array) index)
-        (kept.still front log is (prefix_self log) (omega (arith, equal, some, more)) array index)
-        (rests_words (omega (arith, equal, some, more)) array index)
+        stays_through (word_at (words_in (state_of front) (suc i)) index) (word_at (words_in (state_of log) (suc i)) index)
+        (word_at (words_in (state_of Longer) (suc i)) index)
+        (kept.still front log is (prefix_self log) (omega (arith, equal, some, more)) i index below)
+        (rests_words (omega (arith, equal, some, more)) i index below)
 
-    still_longer : (front : List (Note K V S)) → IsFront front Longer → length (entries_of Longer) ≡ length (entries_of front) → (array index : ℕ) →
-        Stays front Longer array index
-    still_longer front is equal array index = elim (prefix_more front log note is.begins) [
-      | inl old ↦ still_log front (record { some = is.some; begins = old }) equal array index
-      | inr e ↦ inl (ap (λ l. word_at (words_in (state_of l) array) index) (sym e))
+    still_longer : (front : List (Note K V S)) → IsFront front Longer → length (entries_of Longer) ≡ length (entries_of front) → (i index : ℕ) →
+        i < kept.segments → Stays front Longer i index
+    still_longer front is equal i index below = elim (prefix_more front log note is.begins) [
+      | inl old ↦ still_log front (record { some = is.some; begins = old }) equal i index below
+      | inr e ↦ inl (ap (λ l. word_at (words_in (state_of l) (suc i)) index) (sym e))
     ]
 
     pub longer_kept : IsKept eq hash place Longer
@@ -165,11 +177,11 @@ module _ {K V S : Type 0} (eq : K → K → Bool) (hash : S → K → ℕ) (plac
         | inr e ↦ subst (λ l. Lasts eq Place (state_of front) (state_of l)) (sym e)
             (to_longer front (record { some = is.some; begins = subst (λ l. IsPrefix front l) e is.begins }))
       ];
-      still = λ front next is begins equal array index. elim (prefix_more next log note begins) [
-        | inl old ↦ kept.still front next is old equal array index
-        | inr e ↦ subst (λ l. Stays front l array index) (sym e)
+      still = λ front next is begins equal i index below. elim (prefix_more next log note begins) [
+        | inl old ↦ kept.still front next is old equal i index below
+        | inr e ↦ subst (λ l. Stays front l i index) (sym e)
             (still_longer front (record { some = is.some; begins = subst (λ l. IsPrefix front l) e is.begins })
-            (ap (λ l. length (entries_of l)) (sym e) ∙ equal) array index)
+            (ap (λ l. length (entries_of l)) (sym e) ∙ equal) i index below)
       ];
       seals = λ front is. elim (prefix_more front log note is.begins) [
         | inl old ↦ kept.seals front (record { some = is.some; begins = old })

@@ -1,5 +1,5 @@
 -- An array is announced, and its row gets cells: all stays good.
-use Rattle.std.proofs.Common.{◌≡◌, ◌≢◌, ℕ, ◌^◌, ◌<◌, ◌≤◌, Bool, true, false, cond, List, [], ◌∷◌, ◌++◌, length, set, Option, Some, None, IsSome, zero, suc, inl, inr, refl, sym, ap, subst, ◌∙◌, arith, length-append}
+use Rattle.std.proofs.Common.{◌≡◌, ◌≢◌, ℕ, ◌^◌, ◌<◌, ◌≤◌, Bool, true, false, cond, List, [], ◌∷◌, ◌++◌, length, set, Option, Some, IsSome, zero, suc, inl, inr, refl, sym, ap, subst, ◌∙◌, arith, length-append}
 use Rattle.std.proofs.lemmas.Bool.{eq-eqb, false≢true}
 use Rattle.std.proofs.lemmas.Bool.Decides.{eqb_tells}
 use Rattle.std.specs.Cmp.{IsEquivalence}
@@ -9,15 +9,16 @@ use Rattle.moka_hist.specs.Finite.{put_at}
 use Rattle.moka_pairs.specs.Keys.{Agrees, Respects}
 use Rattle.moka_pairs.proofs.Names.{agrees_now}
 use Rattle.moka_history.specs.declared.note.Note.{Note}
-use Rattle.moka_history.specs.declared.note.Note.TheVariants.{Opened, Announced, Changed, ArrayAnnounced, CellAdded, CellHome, Sealed}
+use Rattle.moka_history.specs.declared.note.Note.TheVariants.{Opened, Announced, Changed, ArrayAnnounced, CellAdded, CellHome, Sealed, ArrayLinked, Copied}
 use Rattle.moka_history.specs.Entries.{Entry}
-use Rattle.moka_history.specs.States.{Owner, Door, Bucket, Ticket, Array, Row, Plan, State, IsPlaced, after, word_in, words_in}
+use Rattle.moka_history.specs.States.{Owner, Door, Bucket, Ticket, Array, Row, Next, Plan, State, IsPlaced, after, word_in, words_in}
 use Rattle.moka_history.specs.Laws.{IsOfRow}
-use Rattle.moka_history.specs.Rules.{IsOwned, IsDrawn, IsGood, Lasts}
+use Rattle.moka_history.specs.Rules.{AreLinked, IsOwned, IsDrawn, IsGood, Lasts}
 use Rattle.moka_history.proofs.Cells.{set_length, word_beside, word_front, words_same}
 use Rattle.moka_history.proofs.Lists.{no_item, one_item, front_get, get_below, more_get, other_get, set_from, set_get}
-use Rattle.moka_history.proofs.Owners.{array_is_array, array_not_row, array_not_ticket, door_not_array, door_not_row, row_is_row, row_not_bucket, row_not_ticket}
-use Rattle.moka_history.proofs.Quiet.{Stays, quiet, quiet_good, quiet_lasts}
+use Rattle.moka_history.proofs.Chains.{links_stay}
+use Rattle.moka_history.proofs.Owners.{Stays, array_is_array, array_not_row, array_not_ticket, door_not_array, door_not_row, next_not_array, next_not_row, row_is_row, row_not_bucket, row_not_ticket}
+use Rattle.moka_history.proofs.Quiet.{quiet, quiet_good, quiet_lasts}
 
 -- a cell that holds an owner is another one than a cell that holds another
 apart_at : {A : Type 0} (xs : List A) (j k : ℕ) (x y : A) → slice_get xs j ≡ Some x → slice_get xs k ≡ Some y → (x ≡ y → ⊥) → j ≢ k
@@ -70,6 +71,8 @@ rows_keep s (Opened segments size hasher) placed is = absurd is
 rows_keep s (Announced ticket pair) placed is = absurd is
 rows_keep s (Changed ticket array index to) placed is = absurd is
 rows_keep s (Sealed array index to) placed is = absurd is
+rows_keep s (ArrayLinked ticket segment grown keys) placed is = absurd is
+rows_keep s (Copied array index to) placed is = absurd is
 
 module _ {K V : Type 0} (S : Type 0) (eq : K → K → Bool) (laws : IsEquivalence eq) (hash place : K → ℕ) (respects : Respects eq hash)
     (s : State K V) (es : List (Entry K V)) (good : IsGood eq hash place s es) where
@@ -90,15 +93,21 @@ module _ {K V : Type 0} (S : Type 0) (eq : K → K → Bool) (laws : IsEquivalen
     stays : (o : ℕ → Bool → Owner) → Stays o s.cells (s.cells ++ x ∷ [])
     stays o k n b e = (b, front_get s.cells (x ∷ []) k (o n b) e, λ h. h)
 
-    grown_owned : (last : ℕ) (plans : ℕ → Option Plan) → (Door ≡ x → ⊥) → ((n : ℕ) (b : Bool) → Ticket n b ≡ x → ⊥) →
+    grown_lasts : (last : ℕ) (plans : ℕ → Option Plan) → s.last ≤ last → Agrees plans s.plans → Lasts eq place s (quiet s last plans (s.cells ++ x ∷ []))
+    grown_lasts last plans low grows = quiet_lasts eq laws hash place respects s es good last plans (s.cells ++ x ∷ []) (grown_words s owned.places last plans x)
+        low grows (stays Ticket) (stays Array) (λ k n b e. inl (stays Row k n b e)) (λ k w e. (w, front_get s.cells (x ∷ []) k (Bucket w) e))
+        (λ k a t e. (t, front_get s.cells (x ∷ []) k (Next a t) e))
+
+    grown_owned : (last : ℕ) (plans : ℕ → Option Plan) → (Door ≡ x → ⊥) → ((n : ℕ) (b : Bool) → Ticket n b ≡ x → ⊥) → ((a t : ℕ) → Next a t ≡ x → ⊥) →
         ((j k n : ℕ) (b c : Bool) → slice_get (s.cells ++ x ∷ []) j ≡ Some (Array n b) → slice_get (s.cells ++ x ∷ []) k ≡ Some (Array n c) → j ≡ k) →
         IsOwned (quiet s last plans (s.cells ++ x ∷ []))
-    grown_owned last plans no_door no_ticket arrays = record {
+    grown_owned last plans no_door no_ticket no_next arrays = record {
       door = λ k. (λ at. (owned.door k).0 (was Door no_door k at), λ e. front_get s.cells (x ∷ []) k Door ((owned.door k).1 e));
       buckets = λ a i k e. (let (w, at) = owned.buckets a i k e in (w, front_get s.cells (x ∷ []) k (Bucket w) at));
       places = grown_placed s owned.places last plans x;
       tickets = λ j k n b c e f. owned.tickets j k n b c (was (Ticket n b) (no_ticket n b) j e) (was (Ticket n c) (no_ticket n c) k f);
       arrays = arrays;
+      nexts = λ j k a t u e f. owned.nexts j k a t u (was (Next a t) (no_next a t) j e) (was (Next a u) (no_next a u) k f);
     }
 
   -- the next ticket is drawn for an array
@@ -146,7 +155,15 @@ module _ {K V : Type 0} (S : Type 0) (eq : K → K → Bool) (laws : IsEquivalen
     ]
 
     planned_owned : IsOwned planned_state
-    planned_owned = grown_owned cell ticket plans (λ e. door_not_array e) (λ n b e. array_not_ticket (sym e)) one_array
+    planned_owned = grown_owned cell ticket plans (λ e. door_not_array e) (λ n b e. array_not_ticket (sym e)) (λ a t e. next_not_array e) one_array
+
+    planned_linked : AreLinked planned_state
+    planned_linked = links_stay s good.linked planned_state refl (omega (arith, is)) drawn.first (λ i. refl) (λ a. refl) plans_grow (stays cell Array)
+        (λ k n b e. elim (more_get s.cells cell k (Array n b) e) [
+          | inl old ↦ inl old
+          | inr new ↦ inr (let same = (array_is_array new.1).0 in (omega (arith, is, same), omega (arith, same)))
+        ])
+        (λ k a t e. was cell (Next a t) (λ d. next_not_array d) k e)
 
     planned_drawn : IsDrawn planned_state es
     planned_drawn = record {
@@ -173,11 +190,11 @@ module _ {K V : Type 0} (S : Type 0) (eq : K → K → Bool) (laws : IsEquivalen
     planned_words = grown_words s owned.places ticket plans cell
 
     pub planned_good : IsGood eq hash place planned_state es
-    planned_good = quiet_good eq laws hash place respects s es good ticket plans (s.cells ++ cell ∷ []) planned_words planned_owned planned_drawn
+    planned_good = quiet_good eq laws hash place respects s es good ticket plans (s.cells ++ cell ∷ []) planned_words (omega (arith, is)) planned_owned
+        planned_drawn planned_linked
 
     pub planned_lasts : Lasts eq place s planned_state
-    planned_lasts = quiet_lasts eq laws hash place respects s es good ticket plans (s.cells ++ cell ∷ []) planned_words (omega (arith, is)) plans_grow
-        (stays cell Ticket) (stays cell Array) (stays cell Row)
+    planned_lasts = grown_lasts cell ticket plans (omega (arith, is)) plans_grow
 
   -- a cell is added to a row
   module _ (ticket : ℕ) (has : IsSome (s.plans ticket)) where
@@ -185,7 +202,7 @@ module _ {K V : Type 0} (S : Type 0) (eq : K → K → Bool) (laws : IsEquivalen
     added_state = after {S = S} s (CellAdded ticket)
 
     added_owned : IsOwned added_state
-    added_owned = grown_owned (Row ticket false) s.last s.plans (λ e. door_not_row e) (λ n b e. row_not_ticket (sym e))
+    added_owned = grown_owned (Row ticket false) s.last s.plans (λ e. door_not_row e) (λ n b e. row_not_ticket (sym e)) (λ a t e. next_not_row e)
         (λ j k n b c e f. owned.arrays j k n b c (was (Row ticket false) (Array n b) (λ d. array_not_row d) j e) (was (Row ticket false) (Array n c) (λ d. array_not_row d) k f))
 
     added_drawn : IsDrawn added_state es
@@ -204,14 +221,16 @@ module _ {K V : Type 0} (S : Type 0) (eq : K → K → Bool) (laws : IsEquivalen
       planned = drawn.planned;
     }
 
+    added_linked : AreLinked added_state
+    added_linked = links_stay s good.linked added_state refl (omega arith) drawn.first (λ i. refl) (λ a. refl) (agrees_now s.plans) (stays (Row ticket false) Array)
+        (λ k n b e. inl (was (Row ticket false) (Array n b) (λ d. array_not_row d) k e)) (λ k a t e. was (Row ticket false) (Next a t) (λ d. next_not_row d) k e)
+
     pub added_good : IsGood eq hash place added_state es
     added_good = quiet_good eq laws hash place respects s es good s.last s.plans (s.cells ++ Row ticket false ∷ [])
-        (grown_words s owned.places s.last s.plans (Row ticket false)) added_owned added_drawn
+        (grown_words s owned.places s.last s.plans (Row ticket false)) (omega arith) added_owned added_drawn added_linked
 
     pub added_lasts : Lasts eq place s added_state
-    added_lasts = quiet_lasts eq laws hash place respects s es good s.last s.plans (s.cells ++ Row ticket false ∷ [])
-        (grown_words s owned.places s.last s.plans (Row ticket false)) (omega arith) (agrees_now s.plans)
-        (stays (Row ticket false) Ticket) (stays (Row ticket false) Array) (stays (Row ticket false) Row)
+    added_lasts = grown_lasts (Row ticket false) s.last s.plans (omega arith) (agrees_now s.plans)
 
   -- it comes home
   module _ (ticket key : ℕ) (at : slice_get s.cells key ≡ Some (Row ticket false)) where
@@ -243,7 +262,15 @@ module _ {K V : Type 0} (S : Type 0) (eq : K → K → Bool) (laws : IsEquivalen
       places = home_placed s owned.places s.last s.plans key ticket at;
       tickets = λ j k n b c e f. owned.tickets j k n b c (before (Ticket n b) (λ d. row_not_ticket (sym d)) j e) (before (Ticket n c) (λ d. row_not_ticket (sym d)) k f);
       arrays = λ j k n b c e f. owned.arrays j k n b c (before (Array n b) (λ d. array_not_row d) j e) (before (Array n c) (λ d. array_not_row d) k f);
+      nexts = λ j k a t u e f. owned.nexts j k a t u (before (Next a t) (λ d. next_not_row d) j e) (before (Next a u) (λ d. next_not_row d) k f);
     }
+
+    array_stays : Stays Array s.cells home_state.cells
+    array_stays k n b e = (b, still (Array n b) (λ d. array_not_row d) k e, λ h. h)
+
+    home_linked : AreLinked home_state
+    home_linked = links_stay s good.linked home_state refl (omega arith) drawn.first (λ i. refl) (λ a. refl) (agrees_now s.plans) array_stays
+        (λ k n b e. inl (before (Array n b) (λ d. array_not_row d) k e)) (λ k a t e. before (Next a t) (λ d. next_not_row d) k e)
 
     home_drawn : IsDrawn home_state es
     home_drawn = record {
@@ -272,10 +299,10 @@ module _ {K V : Type 0} (S : Type 0) (eq : K → K → Bool) (laws : IsEquivalen
 
     pub home_good : IsGood eq hash place home_state es
     home_good = quiet_good eq laws hash place respects s es good s.last s.plans (set s.cells key home)
-        (home_words s owned.places s.last s.plans key ticket at) home_owned home_drawn
+        (home_words s owned.places s.last s.plans key ticket at) (omega arith) home_owned home_drawn home_linked
 
     pub home_lasts : Lasts eq place s home_state
     home_lasts = quiet_lasts eq laws hash place respects s es good s.last s.plans (set s.cells key home)
         (home_words s owned.places s.last s.plans key ticket at) (omega arith) (agrees_now s.plans)
-        (λ k n b e. (b, still (Ticket n b) (λ d. row_not_ticket (sym d)) k e, λ h. h))
-        (λ k n b e. (b, still (Array n b) (λ d. array_not_row d) k e, λ h. h)) row_stays
+        (λ k n b e. (b, still (Ticket n b) (λ d. row_not_ticket (sym d)) k e, λ h. h)) array_stays (λ k n b e. inl (row_stays k n b e))
+        (λ k w e. (w, still (Bucket w) (λ d. row_not_bucket (sym d)) k e)) (λ k a t e. (t, still (Next a t) (λ d. next_not_row d) k e))

@@ -7,20 +7,24 @@ use Rattle.std.specs.Option.{option_map}
 use mathlib.Core.List.{IsPrefix}
 use Rattle.logbook.specs.Pages.{Cell, cell}
 use Rattle.moka_words.specs.declared.words.Word.{Word}
+use Rattle.moka_words.specs.declared.words.Word.TheVariants.{Unset}
+use Rattle.moka_words.specs.declared.accesses.Seen.TheVariants as seen
 use Rattle.moka_words.specs.Words.{is_sealed, node_of, word_at}
 use Rattle.moka_words.specs.Arrays.{bucket_at}
 use Rattle.moka_words.specs.Effect.{Memory}
-use Rattle.moka_growth.specs.Calls.{Call, Change}
+use Rattle.moka_growth.specs.Calls.{Call, Point, Change, access_of}
+use Rattle.moka_growth.specs.Calls as call
 use Rattle.moka_growth.specs.Fits.{HasBeenRoot, Rests}
-use Rattle.moka_growth.specs.Growing.{seal_of}
+use Rattle.moka_growth.specs.Growing.{next_size, seal_of}
 use Rattle.moka_growth.specs.Maps.{Finds}
 use Rattle.moka_pairs.specs.Keys.{Respects, own_by}
 use Rattle.moka_pairs.specs.Pairs.{pair_at}
-use Rattle.moka_pairs.specs.Segments.{FitsAll, IsHashed}
+use Rattle.moka_pairs.specs.Segments.{EffectAll, FitsAll, IsHashed}
 use Rattle.moka_history.specs.declared.note.Note.{Note}
-use Rattle.moka_history.specs.declared.note.Note.TheVariants.{Opened, Announced, Changed, ArrayAnnounced, CellAdded, CellHome, Sealed}
+use Rattle.moka_history.specs.declared.note.Note.TheVariants.{Opened, Announced, Changed, ArrayAnnounced, CellAdded, CellHome, Sealed, ArrayLinked, Copied}
 use Rattle.moka_history.specs.Entries.{Entry, map_after}
-use Rattle.moka_history.specs.States.{Ticket, Array, Row, Plan, State, key_at, memory_of, words_in}
+use Rattle.moka_history.specs.States.{Ticket, Array, Row, Next, Plan, State, key_at, memory_of, numbered, words_in}
+use Rattle.moka_history.specs.Laws.{AreMade}
 use Rattle.moka_history.specs.Logs.{entries_of, entry_with, state_of}
 use Rattle.moka_history.specs.Cells.{number_of, drawn}
 use Rattle.moka_history.specs.Rules.{WasPut, made_on, keys_of, Lasts, IsFront, IsOpenedFor, NamesSeal, IsKept, Holds}
@@ -37,7 +41,7 @@ abbrev pub OpeningIsKept : (K V S : Type 0) → Type 0
 OpeningIsKept K V S =
     (eq : K → K → Bool) (hash : S → K → ℕ) (place : S → ℕ → K → ℕ) → IsDivided eq hash place →
     (segments size : ℕ) (hasher : S) → segments ≤ 2 ^ 60 → IsPowerOfTwo size →
-    Holds {V = V} eq hash place (replicate (suc (segments * size)) (0, true))
+    Holds {V = V} eq hash place (replicate (suc (segments * size + segments)) (0, true))
     (Opened segments size hasher ∷ [])
 
 -- each front of a kept log is kept, and was opened as the log was
@@ -200,6 +204,92 @@ SealingKeeps K V S =
     (slice_set cells (key_at (state_of log) array index) (number_of (seal_of word), true)) more
     × (entries_of more ≡ entries_of log)
 
+-- A call of a segment, with this key or with none, fits after this state, and stands at this point.
+pub record StandsAt {K V : Type 0} (eq : K → K → Bool) (hash place : K → ℕ) (s : State K V)
+    (segment : ℕ) (key : Option K) (c : Call) (point : Point) : Type 0 where
+  pub within : segment < s.segments
+  pub hashed : IsHashed hash key c
+  pub fits : FitsAll eq hash (keys_of place s segment) key (memory_of s segment) c
+  pub stands : c.point ≡ point
+
+-- The array of a ticket is ready to be linked after the first one of its segment: it was announced so,
+-- its ticket isn't home, these are the keys of its words, and nothing follows that first one so far.
+pub record IsReady {K V : Type 0} (s : State K V) (segment own ticket next : ℕ) (keys : List ℕ)
+    : Type 0 where
+  pub there : slice_get s.cells own ≡ Some (Array ticket false)
+  pub planned : s.plans ticket
+      ≡ Some (record { segment = segment; size = length keys; grown = Some (suc segment) })
+  pub made : AreMade s ticket keys
+  pub free : slice_get s.cells next ≡ Some (Next (suc segment) 0)
+
+-- A step that links an array keeps the rule: the word for the array after the segment's first one names
+-- it, and its ticket's cell is home. It is what a call that stands there wants, whatever number comes
+-- next. No entry comes, so the map stays.
+abbrev pub LinkingKeeps : (K V S : Type 0) → Type 0
+LinkingKeeps K V S =
+    (eq : K → K → Bool) (hash : S → K → ℕ) (place : S → ℕ → K → ℕ) → IsDivided eq hash place →
+    (cells : List Cell) (log : List (Note K V S)) → (holds : Holds eq hash place cells log) →
+    let h : K → ℕ = hash holds.1.hasher in
+    let p : K → ℕ = place holds.1.hasher holds.1.segments in
+    (segment size : ℕ) (kept : List (ℕ × ℕ)) (key : Option K) (c : Call) →
+    StandsAt eq h p (state_of log) segment key c (call.Link (Some (suc segment)) size kept) →
+    (own ticket next : ℕ) (keys : List ℕ) →
+    IsReady (state_of log) segment own ticket next keys →
+    length keys ≡ next_size (Some (suc segment)) size (length kept) →
+    let more : List (Note K V S) =
+    log ++ ArrayLinked ticket segment (Some (suc segment)) keys ∷ [] in
+    Holds eq hash place (slice_set (slice_set cells next (ticket, true)) own (0, true)) more
+    × EffectAll eq h (keys_of p (state_of log) segment) key (access_of c)
+    (seen.Linked ticket (length keys)) (numbered ticket (memory_of (state_of log) segment))
+    (numbered (suc ticket) (memory_of (state_of more) segment))
+    × (entries_of more ≡ entries_of log)
+
+-- Where another array was linked there, a call that wants to link one sees that one, and leaves all as
+-- it is.
+abbrev pub LinkIsThere : (K V S : Type 0) → Type 0
+LinkIsThere K V S =
+    (eq : K → K → Bool) (hash : S → K → ℕ) (place : S → ℕ → K → ℕ) → IsDivided eq hash place →
+    (log : List (Note K V S)) → (kept_log : IsKept eq hash place log) →
+    let h : K → ℕ = hash kept_log.hasher in
+    let p : K → ℕ = place kept_log.hasher kept_log.segments in
+    (segment size : ℕ) (kept : List (ℕ × ℕ)) (key : Option K) (c : Call) →
+    StandsAt eq h p (state_of log) segment key c (call.Link (Some (suc segment)) size kept) →
+    (next array : ℕ) → slice_get (state_of log).cells next ≡ Some (Next (suc segment) array) →
+    array ≢ 0 →
+    let m : Memory = memory_of (state_of log) segment in
+    EffectAll eq h (keys_of p (state_of log) segment) key (access_of c)
+    (seen.Linked array (next_size (Some (suc segment)) size (length kept))) m m
+
+-- A step that copies a word into an array that was linked keeps the rule, if the word was unset: it is
+-- the one that the array's layout has there. It is what a call that stands there wants. No entry comes,
+-- so the map stays.
+abbrev pub CopyingKeeps : (K V S : Type 0) → Type 0
+CopyingKeeps K V S =
+    (eq : K → K → Bool) (hash : S → K → ℕ) (place : S → ℕ → K → ℕ) → IsDivided eq hash place →
+    (cells : List Cell) (log : List (Note K V S)) → (holds : Holds eq hash place cells log) →
+    let h : K → ℕ = hash holds.1.hasher in
+    let p : K → ℕ = place holds.1.hasher holds.1.segments in
+    (segment array index : ℕ) (from : Option ℕ) (laid : List Word) (key : Option K) (c : Call) →
+    StandsAt eq h p (state_of log) segment key c (call.Copy from array index laid) →
+    word_at (words_in (state_of log) array) index ≡ Unset →
+    let to : Word = word_at laid index in
+    let more : List (Note K V S) = log ++ Copied array index to ∷ [] in
+    Holds eq hash place
+    (slice_set cells (key_at (state_of log) array index) (number_of to, true)) more
+    × EffectAll eq h (keys_of p (state_of log) segment) key (access_of c) seen.Copied
+    (memory_of (state_of log) segment) (memory_of (state_of more) segment)
+    × (entries_of more ≡ entries_of log)
+
+-- A word that is set is left as it is by a call that copies.
+abbrev pub CopyIsThere : (K V : Type 0) → Type 0
+CopyIsThere K V =
+    (eq : K → K → Bool) (hash : K → ℕ) (s : State K V) (known : ℕ → Option K)
+    (segment array index : ℕ) (from : Option ℕ) (laid : List Word) (key : Option K) (c : Call) →
+    c.point ≡ call.Copy from array index laid →
+    word_at (words_in s array) index ≢ Unset →
+    EffectAll eq hash known key (access_of c) seen.Copied (memory_of s segment)
+    (memory_of s segment)
+
 -- What a call knew with the keys of a front it knows with those of the log. Where it fits the memory of
 -- a front, with these, it fits that of the log.
 abbrev pub CallsStillFit : (K V S : Type 0) → Type 0
@@ -246,16 +336,16 @@ TicketsAreSpentOnce K V S =
     × ((front : List (Note K V S)) → IsFront front log → made_on ticket (entries_of front) ≡ 1 →
     made_on ticket (entries_of log) ≡ 1)
 
--- A word that isn't as it was after a front is sealed, or was changed by an entry past the front, on
--- another ticket than one whose cell isn't home.
+-- A word of a segment's first array that isn't as it was after a front is sealed, or was changed by an
+-- entry past the front, on another ticket than one whose cell isn't home.
 abbrev pub WordsChangeByEntries : (K V S : Type 0) → Type 0
 WordsChangeByEntries K V S =
     (eq : K → K → Bool) (hash : S → K → ℕ) (place : S → ℕ → K → ℕ) →
-    (log front : List (Note K V S)) → IsKept eq hash place log → IsFront front log →
-    (array index : ℕ) →
-    word_at (words_in (state_of log) array) index
-    ≢ word_at (words_in (state_of front) array) index →
-    (is_sealed (word_at (words_in (state_of log) array) index) ≡ true)
+    (log front : List (Note K V S)) → (kept : IsKept eq hash place log) → IsFront front log →
+    (i index : ℕ) → i < kept.segments →
+    word_at (words_in (state_of log) (suc i)) index
+    ≢ word_at (words_in (state_of front) (suc i)) index →
+    (is_sealed (word_at (words_in (state_of log) (suc i)) index) ≡ true)
     ⊎ ((e : Entry K V) × (slice_get (entries_of log) (length (entries_of front)) ≡ Some e)
     × ((own ticket : ℕ) → slice_get (state_of log).cells own ≡ Some (Ticket ticket false) →
     e.ticket ≢ ticket))

@@ -1,23 +1,24 @@
 -- What each step of a book tells its caller, and that each can be made whatever the book is.
-use Rattle.std.specs.Prelude.{◌≡◌, ◌⊎◌, ℕ, ◌+◌, ◌^◌, ◌==◌, ◌<◌, ◌≤◌, Bool, true, false, List, [], ◌∷◌, ◌++◌, length, Option, Some, None, IsSome, MatchBool}
+use Rattle.std.specs.Prelude.{◌≡◌, ◌⊎◌, ℕ, suc, ◌+◌, ◌^◌, ◌==◌, ◌<◌, ◌≤◌, Bool, true, false, List, [], ◌∷◌, ◌++◌, length, Option, Some, None, IsSome, MatchBool}
 use Rattle.std.specs.List.{slice_get}
 use mathlib.Core.List.{IsPrefix}
 use prog.Atomic.{either}
 use Rattle.logbook.specs.Pages.{Moves, Step, View, cell, may_make, may_write, nib, no_nib, step}
 use Rattle.moka_words.specs.declared.words.Word.{Word}
 use Rattle.moka_words.specs.Arrays.{bucket_at}
-use Rattle.moka_words.specs.Words.{is_sealed}
+use Rattle.moka_words.specs.Words.{is_sealed, word_at}
 use Rattle.moka_growth.specs.Calls.{Call}
+use Rattle.moka_growth.specs.Calls as call
 use Rattle.moka_growth.specs.Fits.{HasBeenRoot}
-use Rattle.moka_growth.specs.Growing.{seal_of}
+use Rattle.moka_growth.specs.Growing.{next_size, seal_of}
 use Rattle.moka_history.specs.declared.note.Note.{Note}
-use Rattle.moka_history.specs.declared.note.Note.TheVariants.{Opened, Announced, Changed, ArrayAnnounced, CellAdded, CellHome, Sealed}
+use Rattle.moka_history.specs.declared.note.Note.TheVariants.{Opened, Announced, Changed, ArrayAnnounced, CellAdded, CellHome, Sealed, ArrayLinked, Copied}
 use Rattle.moka_history.specs.Entries.{Entry}
-use Rattle.moka_history.specs.States.{Ticket, Array, Row, Plan, State, memory_of}
+use Rattle.moka_history.specs.States.{Ticket, Array, Row, Next, State, memory_of}
 use Rattle.moka_history.specs.Logs.{entries_of, entry_of, state_of}
 use Rattle.moka_history.specs.Cells.{cells_of, number_of}
-use Rattle.moka_history.specs.Rules.{IsOpenedFor, IsKept, Holds}
-use Rattle.moka_history.specs.Keeping.{Comes, IsDivided, IsSmall}
+use Rattle.moka_history.specs.Rules.{IsOpenedFor, IsRowStill, IsKept, Holds}
+use Rattle.moka_history.specs.Keeping.{Comes, IsDivided, IsReady, IsSmall, StandsAt}
 
 -- callers trade nothing
 abbrev pub shown : {E : Type 0} → List E → List E
@@ -44,6 +45,8 @@ module _ {K V S : Type 0} where
   HasCell own (Changed ticket array index to) s = ⊥
   HasCell own (CellHome ticket cell) s = ⊥
   HasCell own (Sealed array index to) s = ⊥
+  HasCell own (ArrayLinked ticket segment grown keys) s = ⊥
+  HasCell own (Copied array index to) s = ⊥
 
   -- the cell that the note brings home is so, in a row for its ticket
   abbrev pub IsBrought : Note K V S → State K V → Type 0
@@ -54,6 +57,22 @@ module _ {K V S : Type 0} where
   IsBrought (ArrayAnnounced ticket segment size grown) s = ⊥
   IsBrought (CellAdded ticket) s = ⊥
   IsBrought (Sealed array index to) s = ⊥
+  IsBrought (ArrayLinked ticket segment grown keys) s = ⊥
+  IsBrought (Copied array index to) s = ⊥
+
+  -- the array that the note links was ready for it: its ticket's cell is `own`, and `next` is the word
+  -- for the array after the segment's first one
+  abbrev pub WasReady : (own next : ℕ) → Note K V S → State K V → Type 0
+  WasReady own next (ArrayLinked ticket segment grown keys) s =
+      IsReady s segment own ticket next keys
+  WasReady own next (Opened segments size hasher) s = ⊥
+  WasReady own next (Announced ticket pair) s = ⊥
+  WasReady own next (Changed ticket array index to) s = ⊥
+  WasReady own next (ArrayAnnounced ticket segment size grown) s = ⊥
+  WasReady own next (CellAdded ticket) s = ⊥
+  WasReady own next (CellHome ticket cell) s = ⊥
+  WasReady own next (Sealed array index to) s = ⊥
+  WasReady own next (Copied array index to) s = ⊥
 
   -- the cell holds the number after this log
   abbrev pub HoldsThere : (key number : ℕ) → List (Note K V S) → Type 0
@@ -116,15 +135,33 @@ module _ {K V S : Type 0} (eq : K → K → Bool) (hash : S → K → ℕ) (plac
       ((added : Added s v found w) × (entries_of w.0 ≡ entries_of added.log))
       (Looks s v found w)
 
+  -- the array was linked, which was ready for it, and no entry came
+  pub record Joined (s : Step (Note K V S)) (v : View (Note K V S) ℕ) (found : ℕ)
+      (w : View (Note K V S) ℕ) : Type 0 where
+    pub added : Added s v found w
+    pub ready : WasReady v.1.0.key s.key s.ask (state_of added.log)
+    pub entries : entries_of w.0 ≡ entries_of added.log
+
+  -- it was; or another one stands there by now
+  abbrev pub Joins : Step (Note K V S) → View (Note K V S) ℕ → ℕ → View (Note K V S) ℕ → Type 0
+  Joins s v found w = MatchBool (found == s.old) (Joined s v found w) (Looks s v found w)
+
+  -- the word was copied, and no entry came; or it was set before
+  abbrev pub Copies : Step (Note K V S) → View (Note K V S) ℕ → ℕ → View (Note K V S) ℕ →
+      Type 0
+  Copies s v found w = MatchBool (found == s.old)
+      ((added : Added s v found w) × (entries_of w.0 ≡ entries_of added.log))
+      (Looks s v found w)
+
 -- the door, or a place that an array has after this log
 abbrev pub IsPlace : {K V S : Type 0} → (key : ℕ) → List (Note K V S) → Type 0
 IsPlace key log = (key ≡ 0)
     ⊎ ((array : ℕ) × (index : ℕ) × (slice_get ((state_of log).arrays array) index ≡ Some key))
 
--- or a word of a row that is home
+-- or a word that was made for a row
 abbrev pub IsHome : {K V S : Type 0} → (key : ℕ) → List (Note K V S) → Type 0
 IsHome key log = IsPlace key log
-    ⊎ ((ticket : ℕ) × (slice_get (state_of log).cells key ≡ Some (Row ticket true)))
+    ⊎ ((ticket : ℕ) × IsRowStill (state_of log) key ticket true)
 
 -- a load of a word, by who has seen a front
 abbrev pub LookMoves : (K V S : Type 0) → Type 0
@@ -211,4 +248,52 @@ SealingMoves K V S =
     (λ n. either (n == number_of word) (number_of (seal_of word)) n)
     (Seals eq hash place
     (step bucket (number_of word) (number_of (seal_of word)) (Sealed array index (seal_of word)))
+    (front, (no_nib, None)))
+
+-- the array of a ticket is ready to be linked after this front, if the ticket isn't home and nothing was
+-- linked there
+pub record MayLink {K V : Type 0} (s : State K V) (segment own ticket next : ℕ) (keys : List ℕ)
+    : Type 0 where
+  pub home : Bool
+  pub there : slice_get s.cells own ≡ Some (Array ticket home)
+  pub planned : s.plans ticket
+      ≡ Some (record { segment = segment; size = length keys; grown = Some (suc segment) })
+  pub each : (i k : ℕ) → slice_get keys i ≡ Some k → IsRowStill s k ticket true
+  pub differ : (i j k : ℕ) → slice_get keys i ≡ Some k → slice_get keys j ≡ Some k → i ≡ j
+  pub array : ℕ
+  pub free : slice_get s.cells next ≡ Some (Next (suc segment) array)
+
+-- An exchange of the word for the array after a segment's first one, by a call that stands there after
+-- a front, with a row whose ticket's cell the pen writes.
+abbrev pub LinkingMoves : (K V S : Type 0) → Type 0
+LinkingMoves K V S =
+    (eq : K → K → Bool) (hash : S → K → ℕ) (place : S → ℕ → K → ℕ) → IsDivided eq hash place →
+    (segments first : ℕ) (hasher : S) (front : List (Note K V S)) →
+    IsOpenedFor segments first hasher front →
+    (segment size : ℕ) (kept : List (ℕ × ℕ)) (key : Option K) (c : Call) →
+    StandsAt eq (hash hasher) (place hasher segments) (state_of front) segment key c
+    (call.Link (Some (suc segment)) size kept) →
+    (own ticket next : ℕ) (keys : List ℕ) →
+    MayLink (state_of front) segment own ticket next keys →
+    length keys ≡ next_size (Some (suc segment)) size (length kept) →
+    Moves (Holds eq hash place) shown moved next (front, (nib may_write own 0, None))
+    (λ n. either (n == 0) ticket n)
+    (Joins eq hash place
+    (step next 0 ticket (ArrayLinked ticket segment (Some (suc segment)) keys))
+    (front, (nib may_write own 0, None)))
+
+-- An exchange of an unset word of an array that was linked, by a call that stands there after a front.
+abbrev pub CopyingMoves : (K V S : Type 0) → Type 0
+CopyingMoves K V S =
+    (eq : K → K → Bool) (hash : S → K → ℕ) (place : S → ℕ → K → ℕ) → IsDivided eq hash place →
+    (segments first : ℕ) (hasher : S) (front : List (Note K V S)) →
+    IsOpenedFor segments first hasher front →
+    (segment array index : ℕ) (from : Option ℕ) (laid : List Word) (key : Option K) (c : Call) →
+    StandsAt eq (hash hasher) (place hasher segments) (state_of front) segment key c
+    (call.Copy from array index laid) →
+    (bucket : ℕ) → slice_get ((state_of front).arrays array) index ≡ Some bucket →
+    let to : Word = word_at laid index in
+    Moves (Holds eq hash place) shown moved bucket (front, (no_nib, None))
+    (λ n. either (n == 1) (number_of to) n)
+    (Copies eq hash place (step bucket 1 (number_of to) (Copied array index to))
     (front, (no_nib, None)))

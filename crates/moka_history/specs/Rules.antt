@@ -1,5 +1,5 @@
 -- The rule of a table's book: what its cells and its log keep.
-use Rattle.std.specs.Prelude.{◌≡◌, ◌↔◌, ◌⊎◌, ℕ, suc, ◌^◌, ◌==◌, ◌<◌, ◌≤◌, Bool, true, cond, List, ◌∷◌, map, length, Option, Some, None, IsSome}
+use Rattle.std.specs.Prelude.{◌≡◌, ◌↔◌, ◌⊎◌, ℕ, suc, ◌^◌, ◌==◌, ◌<◌, ◌≤◌, Bool, true, false, cond, List, [], ◌∷◌, map, length, Option, Some, None, IsSome}
 use Rattle.std.specs.List.{slice_get}
 use mathlib.Core.List.{IsPrefix}
 use Rattle.logbook.specs.Pages.{Cell}
@@ -12,7 +12,7 @@ use Rattle.moka_pairs.specs.Segments.{SoundAll, LaterAll}
 use Rattle.moka_history.specs.declared.note.Note.{Note}
 use Rattle.moka_history.specs.declared.note.Note.TheVariants.{Opened, Sealed}
 use Rattle.moka_history.specs.Entries.{Entry, IsLegal, map_after}
-use Rattle.moka_history.specs.States.{Door, Bucket, Ticket, Array, Row, State, IsPlaced, memory_of, words_in}
+use Rattle.moka_history.specs.States.{Door, Bucket, Ticket, Array, Row, Next, Plan, State, IsPlaced, memory_of, words_in}
 use Rattle.moka_history.specs.Logs.{entries_of, state_of}
 use Rattle.moka_history.specs.Cells.{cells_of}
 
@@ -22,7 +22,8 @@ module _ {K V : Type 0} where
   made_on ticket es = times ticket (map (λ e. e.ticket) es)
 
   -- one cell an owner: the door is the first one, each place of an array has a bucket of its own,
-  -- and each ticket at most one cell. So no array has the cell of a row that is being made.
+  -- each ticket at most one cell, and at most one names the array after another. So no array has the
+  -- cell of a row that is being made.
   pub record IsOwned (s : State K V) : Type 0 where
     pub door : (k : ℕ) → slice_get s.cells k ≡ Some Door ↔ (k ≡ 0)
     pub buckets : (a i k : ℕ) → slice_get (s.arrays a) i ≡ Some k →
@@ -32,6 +33,8 @@ module _ {K V : Type 0} where
         slice_get s.cells k ≡ Some (Ticket n c) → j ≡ k
     pub arrays : (j k n : ℕ) (b c : Bool) → slice_get s.cells j ≡ Some (Array n b) →
         slice_get s.cells k ≡ Some (Array n c) → j ≡ k
+    pub nexts : (j k a t u : ℕ) → slice_get s.cells j ≡ Some (Next a t) →
+        slice_get s.cells k ≡ Some (Next a u) → j ≡ k
 
   -- Tickets rise to the last one, which is at most 2^60: no later one has a cell, a pair or an
   -- entry, and none has a plan. At most one entry was made on a ticket: on one whose cell is home, and
@@ -50,6 +53,35 @@ module _ {K V : Type 0} where
         IsSome (s.plans n)
     pub planned : (n : ℕ) → s.last < n → s.plans n ≡ None
 
+-- the array that was linked first, 0 where none was
+abbrev pub first_link : List ℕ → ℕ
+first_link [] = 0
+first_link (a ∷ more) = a
+
+module _ {K V : Type 0} where
+  -- Each array that was linked has a ticket, which is home, and was announced for its segment. An
+  -- array whose ticket isn't home has no words. Where a cell names the array after another one, that
+  -- is a segment's first, and the cell names the one that was linked after it.
+  pub record AreLinked (s : State K V) : Type 0 where
+    pub numbers : (k n : ℕ) (home : Bool) → slice_get s.cells k ≡ Some (Array n home) →
+        (s.segments < n) × (n ≤ s.last)
+    pub home : (i p a : ℕ) → slice_get (s.links i) p ≡ Some a →
+        (k : ℕ) × (slice_get s.cells k ≡ Some (Array a true))
+    pub planned : (i p a : ℕ) → slice_get (s.links i) p ≡ Some a →
+        (plan : Plan) × (s.plans a ≡ Some plan) × (plan.segment ≡ i)
+    pub unmade : (k n : ℕ) → slice_get s.cells k ≡ Some (Array n false) → s.arrays n ≡ []
+    pub past : (n : ℕ) → s.last < n → s.arrays n ≡ []
+    pub nexts : (k a t : ℕ) → slice_get s.cells k ≡ Some (Next a t) →
+        (i : ℕ) × (a ≡ suc i) × (i < s.segments) × (t ≡ first_link (s.links i))
+
+  -- What became of a cell that was one of the ticket's row: it is so still, and home if it was; or it
+  -- is a bucket, since the ticket is home.
+  abbrev pub IsRowStill : State K V → (key ticket : ℕ) → (home : Bool) → Type 0
+  IsRowStill s key ticket home =
+      ((now : Bool) × (slice_get s.cells key ≡ Some (Row ticket now)) × (home ≡ true → now ≡ true))
+      ⊎ ((w : Word) × (slice_get s.cells key ≡ Some (Bucket w))
+      × ((own : ℕ) × (slice_get s.cells own ≡ Some (Array ticket true))))
+
 module _ {K V : Type 0} (eq : K → K → Bool) where
   -- an entry put a value under the key
   abbrev pub WasPut : List (Entry K V) → K → Type 0
@@ -67,8 +99,9 @@ module _ {K V : Type 0} (eq : K → K → Bool) (place : K → ℕ) where
   abbrev pub pair_in : State K V → (segment : ℕ) → K → Option (K × V)
   pair_in s segment q = map_of eq (memory_of s segment) (keys_of place s segment) s.pairs q
 
-  -- What stays true of a state: arrays keep their cells, tickets and rows theirs, which stay home,
-  -- numbers their pairs, tickets their plans, and the memory of each segment is a later one.
+  -- What stays true of a state: arrays keep their cells, and tickets theirs, which stay home; rows
+  -- keep theirs too, until their array is linked; numbers keep their pairs, tickets their plans, and
+  -- the memory of each segment is a later one.
   pub record Lasts (old new : State K V) : Type 0 where
     pub segments : new.segments ≡ old.segments
     pub last : old.last ≤ new.last
@@ -79,7 +112,11 @@ module _ {K V : Type 0} (eq : K → K → Bool) (place : K → ℕ) where
     pub announced : (k n : ℕ) (b : Bool) → slice_get old.cells k ≡ Some (Array n b) →
         (c : Bool) × (slice_get new.cells k ≡ Some (Array n c)) × (b ≡ true → c ≡ true)
     pub rows : (k n : ℕ) (b : Bool) → slice_get old.cells k ≡ Some (Row n b) →
-        (c : Bool) × (slice_get new.cells k ≡ Some (Row n c)) × (b ≡ true → c ≡ true)
+        IsRowStill new k n b
+    pub buckets : (k : ℕ) (w : Word) → slice_get old.cells k ≡ Some (Bucket w) →
+        (v : Word) × (slice_get new.cells k ≡ Some (Bucket v))
+    pub nexts : (k a t : ℕ) → slice_get old.cells k ≡ Some (Next a t) →
+        (u : ℕ) × (slice_get new.cells k ≡ Some (Next a u))
     pub pairs : Agrees new.pairs old.pairs
     pub plans : Agrees new.plans old.plans
     pub later : (i : ℕ) → i < old.segments →
@@ -92,6 +129,7 @@ module _ {K V : Type 0} (eq : K → K → Bool) (hash place : K → ℕ) where
   pub record IsGood (s : State K V) (es : List (Entry K V)) : Type 0 where
     pub owned : IsOwned s
     pub drawn : IsDrawn s es
+    pub linked : AreLinked s
     pub sound : (i : ℕ) → i < s.segments → SoundAll eq hash (keys_of place s i) (memory_of s i)
     pub puts : (i index n : ℕ) (p : K × V) → i < s.segments →
         node_of (word_at (words_in s (suc i)) index) ≡ Some n → s.pairs n ≡ Some p →
@@ -120,8 +158,8 @@ IsSameOrSealed old new = (new ≡ old) ⊎ (is_sealed new ≡ true)
 
 -- `hash` and `place` are those of a hash builder; `place` is that of so many segments
 module _ {K V S : Type 0} (eq : K → K → Bool) (hash : S → K → ℕ) (place : S → ℕ → K → ℕ) where
-  -- After each front of it all was good, and has lasted. Words change by entries and seals alone, and
-  -- the log names each seal.
+  -- After each front of it all was good, and has lasted. Words of a segment's first array change by
+  -- entries and seals alone, and the log names each seal.
   pub record IsKept (log : List (Note K V S)) : Type 0 where
     pub segments : ℕ
     pub size : ℕ
@@ -132,9 +170,9 @@ module _ {K V S : Type 0} (eq : K → K → Bool) (hash : S → K → ℕ) (plac
     pub lasts : (front next : List (Note K V S)) → IsFront front next → IsPrefix next log →
         Lasts eq (place hasher segments) (state_of front) (state_of next)
     pub still : (front next : List (Note K V S)) → IsFront front next → IsPrefix next log →
-        length (entries_of next) ≡ length (entries_of front) → (array index : ℕ) →
-        IsSameOrSealed (word_at (words_in (state_of front) array) index)
-        (word_at (words_in (state_of next) array) index)
+        length (entries_of next) ≡ length (entries_of front) → (i index : ℕ) → i < segments →
+        IsSameOrSealed (word_at (words_in (state_of front) (suc i)) index)
+        (word_at (words_in (state_of next) (suc i)) index)
     pub seals : (front : List (Note K V S)) → IsFront front log → (array index : ℕ) →
         is_sealed (word_at (words_in (state_of front) array) index) ≡ true →
         NamesSeal array index (word_at (words_in (state_of front) array) index) front

@@ -6,18 +6,20 @@ use Rattle.moka_words.specs.declared.words.Word.{Word}
 use Rattle.moka_words.specs.declared.words.Word.TheVariants.{Unset, Empty}
 use Rattle.moka_words.specs.Effect.{Memory}
 use Rattle.moka_history.specs.declared.note.Note.{Note}
-use Rattle.moka_history.specs.declared.note.Note.TheVariants.{Opened, Announced, Changed, ArrayAnnounced, CellAdded, CellHome, Sealed}
+use Rattle.moka_history.specs.declared.note.Note.TheVariants.{Opened, Announced, Changed, ArrayAnnounced, CellAdded, CellHome, Sealed, ArrayLinked, Copied}
 
 -- What a cell is: the one by which tickets are drawn; that of a bucket, with its word; that of a
 -- ticket, which comes home with the change that is made on the ticket; that of a ticket on which an
--- array is announced; or one of a row that was added for the array of this ticket. Home, such a cell
--- holds an unset word, which is part of no array yet.
+-- array is announced, which comes home as the array is linked; one of a row that was added for the
+-- array of this ticket; or the one that names the array after this one, 0 while there is none. A
+-- row's cell that is home holds an unset word, which is part of no array until that is linked.
 pub data Owner : Type 0 where
   Door : Owner
   Bucket : (word : Word) → Owner
   Ticket : (number : ℕ) (home : Bool) → Owner
   Array : (number : ℕ) (home : Bool) → Owner
   Row : (number : ℕ) (home : Bool) → Owner
+  Next : (array to : ℕ) → Owner
 
 -- what an array is announced for: its segment, how many words it is to have, and the array that it
 -- grows, if it isn't the first one
@@ -27,7 +29,8 @@ pub record Plan : Type 0 where
   pub grown : Option ℕ
 
 -- the number of segments, the last ticket, the pair of each number, the plan of each ticket on which
--- an array is announced, the cells, by their keys, and for each array the keys of its cells
+-- an array is announced, the cells, by their keys, for each array the keys of its cells, and for each
+-- segment the arrays that were linked after its first one, in order
 pub record State (K V : Type 0) : Type 0 where
   pub segments : ℕ
   pub last : ℕ
@@ -35,6 +38,7 @@ pub record State (K V : Type 0) : Type 0 where
   pub plans : ℕ → Option Plan
   pub cells : List Owner
   pub arrays : ℕ → List ℕ
+  pub links : ℕ → List ℕ
 
 -- the word of a cell, if it is that of a bucket
 abbrev pub word_of : Owner → Word
@@ -43,6 +47,7 @@ word_of (Bucket w) = w
 word_of (Ticket n home) = Unset
 word_of (Array n home) = Unset
 word_of (Row n home) = Unset
+word_of (Next a to) = Unset
 
 abbrev pub word_in : List Owner → (key : ℕ) → Word
 word_in cells key = word_of (slice_index_or cells key Door)
@@ -54,6 +59,23 @@ spent ticket (Bucket w) = Bucket w
 spent ticket (Ticket n home) = Ticket n (cond (n == ticket) true home)
 spent ticket (Array n home) = Array n home
 spent ticket (Row n home) = Row n home
+spent ticket (Next a to) = Next a to
+
+-- this array is the one that is grown
+abbrev pub is_grown : (grown : Option ℕ) → (array : ℕ) → Bool
+is_grown None a = false
+is_grown (Some g) a = a == g
+
+-- the cell, after the array of this ticket was linked, past the one that it grows: those of its row
+-- are buckets of unset words
+abbrev pub joined : (ticket : ℕ) (grown : Option ℕ) → Owner → Owner
+joined ticket grown Door = Door
+joined ticket grown (Bucket w) = Bucket w
+joined ticket grown (Ticket n home) = Ticket n home
+joined ticket grown (Array n home) = Array n (cond (n == ticket) true home)
+joined ticket grown (Row n false) = Row n false
+joined ticket grown (Row n true) = cond (n == ticket) (Bucket Unset) (Row n true)
+joined ticket grown (Next a to) = Next a (cond (is_grown grown a) ticket to)
 
 -- the keys of an array's cells, as a table is opened: those of the first array come after the door,
 -- and those of each other one after the array before
@@ -61,6 +83,14 @@ abbrev pub first_keys : (segments length array : ℕ) → List ℕ
 first_keys segments length zero = []
 first_keys segments length (suc i) =
     if ltb i segments then range_with_len (1 + i * length) length else []
+
+-- the cells that name the array after the first one of each segment: no array so far
+abbrev pub first_nexts : (segments : ℕ) → List Owner
+first_nexts segments = map (λ i. Next (suc i) 0) (range_with_len 0 segments)
+
+-- the memory, where the next array gets this number
+abbrev pub numbered : (fresh : ℕ) → Memory → Memory
+numbered fresh m = record m { fresh = fresh }
 
 module _ {K V : Type 0} where
   -- before a table was opened
@@ -73,6 +103,7 @@ module _ {K V : Type 0} where
         plans = λ n. None;
         cells = [];
         arrays = λ a. [];
+        links = λ i. [];
       }
 
   -- the words of an array, and the key of one's cell
@@ -82,15 +113,15 @@ module _ {K V : Type 0} where
   abbrev pub key_at : State K V → (array index : ℕ) → ℕ
   key_at s array index = slice_index_or (s.arrays array) index 0
 
-  -- The memory of the segment of this number, from 0 on: its array is the next number, which is its
-  -- root. Tombstones and keys aren't counted.
+  -- The memory of the segment of this number, from 0 on: its first array is the next number, which is
+  -- its root, and then come those that were linked. Tombstones and keys aren't counted.
   abbrev pub memory_of : State K V → (segment : ℕ) → Memory
   memory_of s segment =
       record {
         words = words_in s;
-        arrays = suc segment ∷ [];
+        arrays = suc segment ∷ s.links segment;
         rooted = 1;
-        fresh = suc s.segments;
+        fresh = suc s.last;
         tombstones = λ a. 0;
         len = 0;
       }
@@ -110,8 +141,9 @@ module _ {K V S : Type 0} where
         last = segments;
         pairs = λ n. None;
         plans = λ n. None;
-        cells = Door ∷ replicate (segments * length) (Bucket Empty);
+        cells = Door ∷ (replicate (segments * length) (Bucket Empty) ++ first_nexts segments);
         arrays = first_keys segments length;
+        links = λ i. [];
       }
   after s (Announced ticket pair) =
       record s {
@@ -133,4 +165,12 @@ module _ {K V S : Type 0} where
   after s (CellAdded ticket) = record s { cells = s.cells ++ Row ticket false ∷ [] }
   after s (CellHome ticket cell) = record s { cells = slice_set s.cells cell (Row ticket true) }
   after s (Sealed array index to) =
+      record s { cells = slice_set s.cells (key_at s array index) (Bucket to) }
+  after s (ArrayLinked ticket segment grown keys) =
+      record s {
+        cells = map (joined ticket grown) s.cells;
+        arrays = put_at s.arrays ticket keys;
+        links = put_at s.links segment (s.links segment ++ ticket ∷ []);
+      }
+  after s (Copied array index to) =
       record s { cells = slice_set s.cells (key_at s array index) (Bucket to) }

@@ -1,6 +1,6 @@
 //! Laws of what notes make of the words.
 
-ghost use Rattle.moka_history.specs.Laws.{AnnouncedKeepsWords, ChangedSetsWord, OpenedIsSound, RowsKeepWords, SealedSetsWord};
+ghost use Rattle.moka_history.specs.Laws.{AnnouncedKeepsWords, ChangedSetsWord, CopiedSetsWord, LinkAddsArray, OpenedIsSound, RowsKeepWords, SealedSetsWord};
 
 /// A table that was just opened has sound segments, of empty words alone, if its arrays are as long
 /// as a power of two.
@@ -26,4 +26,14 @@ pub fn rows_keep_words<K, V, S>()
 /// A seal sets its word, and no other, in the memory of each segment.
 pub fn sealed_sets_word<K, V, S>()
     ensures sets { SealedSetsWord K V S }
+{}
+
+/// A link adds an array of unset words to the memory of its segment, whatever number comes next.
+pub fn link_adds_array<K, V, S>()
+    ensures adds { LinkAddsArray K V S }
+{}
+
+/// A copy sets its word, and no other, in the memory of each segment.
+pub fn copied_sets_word<K, V, S>()
+    ensures sets { CopiedSetsWord K V S }
 {}

@@ -1,6 +1,6 @@
 //! Laws of the rule that the cells of a book keep with its log.
 
-ghost use Rattle.moka_history.specs.Keeping.{AnnouncingKeeps, ArrayAnnouncingKeeps, ArraysHaveRows, CellAddingKeeps, CellBringingKeeps, CellsHoldWords, ChangingKeeps, LookKeeps, NumbersTellWords, OpeningIsKept, SealingKeeps};
+ghost use Rattle.moka_history.specs.Keeping.{AnnouncingKeeps, ArrayAnnouncingKeeps, ArraysHaveRows, CellAddingKeeps, CellBringingKeeps, CellsHoldWords, ChangingKeeps, CopyIsThere, CopyingKeeps, LinkIsThere, LinkingKeeps, LookKeeps, NumbersTellWords, OpeningIsKept, SealingKeeps};
 
 /// The book of a table that was just opened keeps the rule.
 pub fn opening_is_kept<K, V, S>()
@@ -57,4 +57,26 @@ pub fn cell_bringing_keeps<K, V, S>()
 /// The exchange of a word for its seal keeps the rule, and adds no entry.
 pub fn sealing_keeps<K, V, S>()
     ensures keeps { SealingKeeps K V S }
+{}
+
+/// The link of an array that is ready for it keeps the rule, and adds no entry. It is what a call of
+/// the segment wants that has sealed all words of the array before.
+pub fn linking_keeps<K, V, S>()
+    ensures keeps { LinkingKeeps K V S }
+{}
+
+/// Where another array was linked, such a call sees that one.
+pub fn link_is_there<K, V, S>()
+    ensures there { LinkIsThere K V S }
+{}
+
+/// The copy of a word into an array that was linked keeps the rule, where the word was unset, and adds
+/// no entry. It is what a call of the segment wants that copies.
+pub fn copying_keeps<K, V, S>()
+    ensures keeps { CopyingKeeps K V S }
+{}
+
+/// Where the word is set, such a call leaves it.
+pub fn copy_is_there<K, V>()
+    ensures there { CopyIsThere K V }
 {}

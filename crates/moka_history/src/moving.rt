@@ -1,6 +1,6 @@
 //! Laws of steps over the words of a book: each can be made, whatever the book is by then.
 
-ghost use Rattle.moka_history.specs.Moving.{AnnouncingMoves, ArrayAnnouncingMoves, CellAddingMoves, CellBringingMoves, ChangingMoves, LookMoves, SealingMoves};
+ghost use Rattle.moka_history.specs.Moving.{AnnouncingMoves, ArrayAnnouncingMoves, CellAddingMoves, CellBringingMoves, ChangingMoves, CopyingMoves, LinkingMoves, LookMoves, SealingMoves};
 
 /// A load of a word leaves the book. Its caller has seen the log so far, in which the word is the one
 /// that it read.
@@ -32,7 +32,8 @@ pub fn cell_adding_moves<K, V, S>()
     ensures moves { CellAddingMoves K V S }
 {}
 
-/// Another one brings that cell home.
+/// An exchange that leaves the number of a word brings an added cell of an array's row home,
+/// whatever the number is by then.
 pub fn cell_bringing_moves<K, V, S>()
     ensures moves { CellBringingMoves K V S }
 {}
@@ -41,4 +42,16 @@ pub fn cell_bringing_moves<K, V, S>()
 /// another one by now.
 pub fn sealing_moves<K, V, S>()
     ensures moves { SealingMoves K V S }
+{}
+
+/// An exchange of the word for the array after a segment's first one links an array that was made for
+/// it, and brings its ticket home; or it leaves the book, where another one was linked meanwhile.
+pub fn linking_moves<K, V, S>()
+    ensures moves { LinkingMoves K V S }
+{}
+
+/// An exchange of an unset word copies the one that the array's layout has there; or it leaves the
+/// book, where the word is set by now.
+pub fn copying_moves<K, V, S>()
+    ensures moves { CopyingMoves K V S }
 {}

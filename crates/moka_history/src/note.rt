@@ -1,6 +1,7 @@
 //! What stands in the log.
 
 use moka_words::Word;
+use std::collections::LinkedList;
 
 /// What a caller writes into the log of its table. The log is ghost: no value of this type is made.
 #[derive(Drop)]
@@ -43,6 +44,20 @@ pub enum Note<K, V, S> {
     },
     /// The word of the array was exchanged for its seal.
     Sealed {
+        array: u64,
+        index: usize,
+        to: Word,
+    },
+    /// The array that is announced on this ticket was linked in this segment, after the array that it
+    /// grows. Its words have the cells of these keys, in order.
+    ArrayLinked {
+        ticket: u64,
+        segment: usize,
+        grown: Option<u64>,
+        keys: LinkedList<u64>,
+    },
+    /// The word of the array, which was unset, was exchanged for the one that its layout has there.
+    Copied {
         array: u64,
         index: usize,
         to: Word,

@@ -29,13 +29,14 @@ use Rattle.moka_history.proofs.Fronts.{cells_now, entry_between, good_now, lasts
 use Rattle.moka_history.proofs.Lists.{map_more, one_item, prefix_through, times_more}
 use Rattle.moka_history.proofs.Numbers.{numbers_tell}
 use Rattle.moka_shared.specs.declared.asked.Exchange.{Exchange}
-use Rattle.moka_shared.specs.Accesses.{Exchanged}
+use Rattle.moka_shared.specs.Accesses.{Exchanged, IsOther}
 use Rattle.moka_shared.specs.Asks.{exchange_note}
-use Rattle.moka_shared.specs.Changes.{Adds, CanChange}
-use Rattle.moka_shared.specs.Probing.{GoesOn, HasProbed, IsLogOf}
+use Rattle.moka_shared.specs.Changes.{Adds, CanChange, IsMet}
+use Rattle.moka_shared.specs.Hashing.{segment_of}
+use Rattle.moka_shared.specs.Probing.{GoesOn, HasProbed, IsLogOf, ReadsAt}
 use Rattle.moka_shared.specs.Steps.{MayExchange, Sees, Spends}
 use Rattle.moka_shared.specs.Tables.{Table}
-use Rattle.moka_shared.proofs.Loading.{found_is, kept_as, opened_more, opened_some, row_is}
+use Rattle.moka_shared.proofs.Loading.{found_is, found_there, kept_as, opened_more, opened_some, row_is}
 use Rattle.moka_shared.proofs.Probed.{long, own_at, probed_lasts}
 
 -- an entry that comes last is one of those made on its ticket
@@ -49,10 +50,21 @@ made_last es e =
     omega (arith, is)
 
 module _ {K V S : Type 0} (eq : K → K → Bool) (hash : S → K → ℕ) (place : S → ℕ → K → ℕ) (divided : IsDivided eq hash place) (t : Table S) (key : K)
-    (below : place t.hasher t.segments key < t.segments) (h passed : ℕ) (from to : Word) (ticket : ℕ) (e : Entry K V) (front log : List (Note K V S))
-    (can : CanChange eq hash place t h passed from to ticket key e front log) (x : IsLogOf eq hash place t log) where
+    (h passed : ℕ) (from to : Word) (ticket : ℕ) (e : Entry K V) (front log : List (Note K V S))
+    (can : CanChange eq hash place t h passed from to ticket key e front log) (x : IsLogOf eq hash place t log)
+    (segment at : ℕ) (segment_is : segment ≡ segment_of t.segments h) (hash_is : segment_of t.segments h ≡ own_at place t key) (at_is : at ≡ bucket_at t.size h passed)
+    (segment_below : segment < t.segments) (at_inside : at < t.size) where
+  own_is : segment ≡ own_at place t key
+  own_is = segment_is ∙ hash_is
+
+  below : own_at place t key < t.segments
+  below = subst (λ n. n < t.segments) own_is segment_below
+
   abbrev index : ℕ
   index = bucket_at t.size h passed
+
+  inside : index < t.size
+  inside = subst (λ n. n < t.size) at_is at_inside
 
   abbrev bucket : ℕ
   bucket = 1 + (own_at place t key * t.size + index)
@@ -82,10 +94,15 @@ module _ {K V S : Type 0} (eq : K → K → Bool) (hash : S → K → ℕ) (plac
     comes = refl;
   }
 
-  module _ (array at there from_number : ℕ) (array_is : array ≡ suc (own_at place t key)) (at_is : at ≡ index) (there_is : there ≡ bucket)
-      (from_is : from_number ≡ number_of from) (inside : index < t.size) where
+  array_is : segment + 1 ≡ suc (own_at place t key)
+  array_is = (let e = own_is in omega (arith, e))
+
+  module _ (there from_number : ℕ) (place_is : there ≡ 1 + (segment * t.size + at)) (from_is : from_number ≡ number_of from) where
+    there_is : there ≡ bucket
+    there_is = place_is ∙ (ap (λ s. 1 + (s * t.size + at)) own_is ∙ ap (λ i. 1 + (own_at place t key * t.size + i)) at_is)
+
     abbrev asked : Exchange
-    asked = record { ticket = ticket; array = array; index = at; to = to }
+    asked = record { ticket = ticket; array = segment + 1; index = at; to = to }
 
     pub may_change : (to_number : ℕ) → to_number ≡ number_of to → MayExchange eq hash place there from_number to_number asked log
     may_change to_number to_is = record {
@@ -139,7 +156,7 @@ module _ {K V S : Type 0} (eq : K → K → Bool) (hash : S → K → ℕ) (plac
 
       is : entry_of {S = S} (state_of m) (Changed ticket (suc (own_at place t key)) index to) ≡ Some spends.entry
       is = ap (λ a. entry_of {S = S} (state_of m) (Changed ticket a index to)) (sym array_is)
-          ∙ (ap (λ i. entry_of {S = S} (state_of m) (Changed ticket array i to)) (sym at_is) ∙ spends.is)
+          ∙ (ap (λ i. entry_of {S = S} (state_of m) (Changed ticket (segment + 1) i to)) (sym at_is) ∙ spends.is)
 
       entry_is : spends.entry ≡ e
       entry_is = one_item (sym is
@@ -155,8 +172,8 @@ module _ {K V S : Type 0} (eq : K → K → Bool) (hash : S → K → ℕ) (plac
           }
 
       -- it sets one word
-      pub exchanged : Exchanged (own_at place t key) index from to log new
-      exchanged =
+      own_exchanged : Exchanged (own_at place t key) index from to log new
+      own_exchanged =
           let note_is : exchange_note asked ≡ Changed ticket (suc (own_at place t key)) index to =
           ap (λ a. Changed ticket a at to) array_is ∙ ap (λ i. Changed ticket (suc (own_at place t key)) i to) at_is in
           let placed = (good_now eq hash place m (kept_as eq hash place t m m_log)).owned.places in
@@ -171,6 +188,9 @@ module _ {K V S : Type 0} (eq : K → K → Bool) (hash : S → K → ℕ) (plac
             sets = subst (λ s. SetsWord (suc (own_at place t key)) index to (memory_of (state_of m) (own_at place t key)) (memory_of s (own_at place t key))) (sym state_is)
                 (changed_sets S (state_of m) placed ticket (suc (own_at place t key)) index to within (exchange_note asked) note_is (own_at place t key)).0;
           }
+
+      pub exchanged : Exchanged (segment_of t.segments h) index from to log new
+      exchanged = subst (λ s. Exchanged s index from to log new) (sym hash_is) own_exchanged
 
       between : IsPrefix (entries_of log) (entries_of m)
       between = entries_begin log m spends.writes.begins
@@ -202,16 +222,31 @@ module _ {K V S : Type 0} (eq : K → K → Bool) (hash : S → K → ℕ) (plac
           ∙ (ap number_of (same ∙ can.ends.there) ∙ sym from_is)
           )
 
-      pub met_other : (word : Word) → word_at (words_in (state_of new) (suc (own_at place t key))) index ≡ word → word ≢ from
-      met_other word there_is_word same = other (
-          found_is eq hash place t log new x (own_at place t key) index below inside found seen
-          ∙ (ap number_of (there_is_word ∙ same) ∙ sym from_is)
-          )
+      module _ (word : Word) (told : (w : Word) → IsSmall w → found ≡ number_of w → word ≡ w) where
+        pub reads : ReadsAt t h passed word new
+        reads = found_there eq hash place t log new x h passed segment at there found segment_is at_is segment_below at_inside place_is can.ends.within sees word told
 
-      -- where that isn't sealed, it was changed by an entry
-      pub met_entry : (word : Word) → word_at (words_in (state_of new) (suc (own_at place t key))) index ≡ word → is_sealed word ≡ false → (y : Entry K V) × (slice_get (entries_of new) (length (entries_of front)) ≡ Some y) × (y.ticket ≢ ticket)
-      met_entry word there_is_word bare =
-          elim (entry_between eq hash place new (kept_as eq hash place t new new_log) front front_new (suc (own_at place t key)) index differs) [
-            | inl sealed ↦ absurd (false≢true (sym bare ∙ (ap is_sealed (sym there_is_word) ∙ sealed)))
-            | inr came ↦ (let (y, at_front, others) = came in (y, at_front, others own ticket away))
-          ]
+        own_there : word_at (words_in (state_of new) (suc (own_at place t key))) index ≡ word
+        own_there = ap (λ s. word_at (words_in (state_of new) (suc s)) index) (sym hash_is) ∙ reads.there
+
+        pub met_other : IsOther (segment_of t.segments h) index from word new
+        met_other = record {
+          there = reads.there;
+          other = λ same. other (
+              found_is eq hash place t log new x (own_at place t key) index below inside found seen
+              ∙ (ap number_of (own_there ∙ same) ∙ sym from_is)
+              );
+        }
+
+        -- where that isn't sealed, it was changed by an entry
+        came : is_sealed word ≡ false → (y : Entry K V) × (slice_get (entries_of new) (length (entries_of front)) ≡ Some y) × (y.ticket ≢ ticket)
+        came bare =
+            elim (entry_between eq hash place new (kept_as eq hash place t new new_log) front front_new (own_at place t key) index below differs) [
+              | inl sealed ↦ absurd (false≢true (sym bare ∙ (ap is_sealed (sym own_there) ∙ sealed)))
+              | inr made ↦ (let (y, at_front, others) = made in (y, at_front, others own ticket away))
+            ]
+
+        pub met_entry : is_sealed word ≡ false → IsMet t h passed ticket front word new
+        met_entry bare =
+            let entry = came bare in
+            record { entry = entry.0; there = entry.1; other = entry.2; met = reads.there }

@@ -21,4 +21,6 @@ pub mod Filled
 pub mod Courses
 pub mod Turned
 pub mod Rowing
+pub mod Joining
+pub mod Walking
 pub mod Sealing

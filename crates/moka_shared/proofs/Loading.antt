@@ -10,7 +10,7 @@ use Rattle.moka_history.specs.declared.note.Note.TheVariants.{Opened}
 use Rattle.moka_history.specs.States.{words_in}
 use Rattle.moka_history.specs.Logs.{entries_of, state_of}
 use Rattle.moka_history.specs.Cells.{cells_of, number_of}
-use Rattle.moka_history.specs.Rules.{IsFront, IsGood, IsKept, IsOpenedFor, Lasts}
+use Rattle.moka_history.specs.Rules.{IsFront, IsGood, IsKept, IsOpenedFor, IsSameOrSealed, Lasts}
 use Rattle.moka_history.specs.Keeping.{IsSmall}
 use Rattle.moka_history.proofs.Fronts.{cells_now, row_now, words_have_pairs}
 use Rattle.moka_history.proofs.Lists.{prefix_through}
@@ -53,6 +53,11 @@ module _ {K V S : Type 0} (eq : K → K → Bool) (hash : S → K → ℕ) (plac
         subst (λ n. Lasts eq (place t.hasher n) (state_of front) (state_of next)) same.0
         (subst (λ s. Lasts eq (place s x.kept.segments) (state_of front) (state_of next)) same.2 (x.kept.lasts front next at begins))
 
+    pub still_as : (front next : List (Note K V S)) → IsFront front next → IsPrefix next log → length (entries_of next) ≡ length (entries_of front) →
+        (i index : ℕ) → i < t.segments →
+        IsSameOrSealed (word_at (words_in (state_of front) (suc i)) index) (word_at (words_in (state_of next) (suc i)) index)
+    still_as front next at begins equal i index low = x.kept.still front next at begins equal i index (subst (λ n. i < n) (sym same.0) low)
+
     -- it is kept as one of the table
     abbrev pub kept_as : IsKept eq hash place log
     kept_as = record {
@@ -62,7 +67,7 @@ module _ {K V S : Type 0} (eq : K → K → Bool) (hash : S → K → ℕ) (plac
       opened = x.opened;
       good = good_as;
       lasts = lasts_as;
-      still = x.kept.still;
+      still = still_as;
       seals = x.kept.seals;
     }
 
@@ -108,6 +113,14 @@ module _ {K V S : Type 0} (eq : K → K → Bool) (hash : S → K → ℕ) (plac
     there = ap (λ s. word_at (words_in (state_of new) (suc s)) (bucket_at t.size h passed)) (sym is)
         ∙ (ap (λ k. word_at (words_in (state_of new) (suc segment)) k) (sym at) ∙ loads.there);
   }
+
+  -- the word that an exchange met where the hash leads
+  pub found_there : (old new : List (Note K V S)) → IsLogOf eq hash place t old → (h passed segment index there found : ℕ) → segment ≡ segment_of t.segments h →
+      index ≡ bucket_at t.size h passed → segment < t.segments → index < t.size → there ≡ 1 + (segment * t.size + index) → passed < t.size →
+      Sees eq hash place there found old new → (word : Word) → ((w : Word) → IsSmall w → found ≡ number_of w → word ≡ w) → ReadsAt t h passed word new
+  found_there old new x h passed segment index there found is at below inside there_is within sees word told =
+      let sees_there = subst (λ k. Sees eq hash place k found old new) there_is sees in
+      reads_at old new segment index word (loaded old new x segment index below inside found sees_there word told) h passed is at within
 
   -- a node that was read has a pair
   pub pair_read : (log : List (Note K V S)) → IsLogOf eq hash place t log → (h n : ℕ) → segment_of t.segments h < t.segments → ReadsNode t h n log →

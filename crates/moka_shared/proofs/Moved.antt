@@ -11,12 +11,16 @@ use Rattle.moka_history.specs.States.{Ticket}
 use Rattle.moka_history.specs.Logs.{state_of}
 use Rattle.moka_history.specs.Rules.{Holds}
 use Rattle.moka_history.specs.Keeping.{IsDivided}
-use Rattle.moka_history.specs.Moving.{Seals, moved, shown}
+use Rattle.moka_history.specs.Moving.{Copies, Joins, Seals, moved, shown}
+use Rattle.moka_history.proofs.Grows.{copying_moves, linking_moves}
 use Rattle.moka_history.proofs.Moves.{sealing_moves}
 use Rattle.moka_history.proofs.Plays.{changing_moves}
 use Rattle.moka_shared.specs.declared.asked.Exchange.{Exchange}
 use Rattle.moka_shared.specs.declared.asked.Seal.{Seal}
-use Rattle.moka_shared.specs.Asks.{exchange_note, seal_note}
+use Rattle.moka_shared.specs.declared.asked.Copying.{Copying}
+use Rattle.moka_shared.specs.declared.asked.Linking.{Linking}
+use Rattle.moka_shared.specs.Asks.{copy_note, exchange_note, link_note, seal_note}
+use Rattle.moka_shared.specs.Links.{MayCopy, MayJoin}
 use Rattle.moka_shared.specs.Rows.{MaySeal}
 use Rattle.moka_shared.specs.Steps.{ChangesOrStays, MayExchange}
 use Rattle.moka_shared.proofs.Loading.{opened_some}
@@ -44,3 +48,23 @@ module _ {K V S : Type 0} (eq : K → K → Bool) (hash : S → K → ℕ) (plac
   seal_moves bucket from to asked log may pen pen_is ask ask_is state none =
       rw (pen_is, ask_is, none, may.from_is, may.to_is, may.asked_is)
       (sealing_moves eq hash place divided log may.some may.segment asked.array asked.index bucket may.within may.rooted may.there may.word may.small may.bare)
+
+  pub link_moves : (next : ℕ) (asked : Linking) (log : List (Note K V S)) (pen : Nib) → pen ≡ nib may_write pen.key 0 →
+      MayJoin eq hash place next pen.key asked log → (ask : Note K V S) → ask ≡ link_note asked → (state : Option ℕ) → state ≡ None →
+      Moves (Holds eq hash place) shown moved next (log, (pen, state)) (λ n. either (n == 0) asked.ticket n)
+      (Joins eq hash place (step next 0 asked.ticket ask) (log, (pen, state)))
+  link_moves next asked log pen pen_is may ask ask_is state none =
+      let w = may.wants in
+      rw (pen_is, ask_is, none)
+      (linking_moves eq hash place divided may.segments may.first may.hasher log may.opened asked.segment w.size w.kept w.key w.call w.stands
+      pen.key asked.ticket next asked.keys.numbers may.may w.count_is)
+
+  pub copy_moves : (bucket to : ℕ) (asked : Copying) (log : List (Note K V S)) → MayCopy eq hash place bucket to asked log →
+      (pen : Nib) → pen ≡ no_nib → (ask : Note K V S) → ask ≡ copy_note asked → (state : Option ℕ) → state ≡ None →
+      Moves (Holds eq hash place) shown moved bucket (log, (pen, state)) (λ n. either (n == 1) to n)
+      (Copies eq hash place (step bucket 1 to ask) (log, (pen, state)))
+  copy_moves bucket to asked log may pen pen_is ask ask_is state none =
+      let w = may.wants in
+      rw (pen_is, ask_is, none, may.to_is, w.to_is)
+      (copying_moves eq hash place divided may.segments may.first may.hasher log may.opened may.segment asked.array asked.index w.from w.laid w.key w.call w.stands
+      bucket may.there)

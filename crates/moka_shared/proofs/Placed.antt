@@ -28,3 +28,7 @@ pub segment_below : (segments h : ℕ) → 0 < segments → h < 2 ^ 64 → segme
 segment_below segments h some small =
     let most : h * segments ≤ 18446744073709551615 * segments = mul-le h segments 18446744073709551615 segments (omega (arith, small)) (omega arith) in
     div_below (h * segments) (2 ^ 64) segments (omega arith) (omega (arith, most, some))
+
+-- equal hashes lead to one segment
+pub same_segment : (segments segment h k : ℕ) → segment ≡ segment_of segments h → h ≡ k → segment ≡ segment_of segments k
+same_segment segments segment h k is same = is ∙ ap (segment_of segments) same

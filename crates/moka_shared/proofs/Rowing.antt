@@ -9,14 +9,16 @@ use Rattle.moka_pairs.specs.Keys.{Agrees}
 use Rattle.moka_history.specs.declared.note.Note.{Note}
 use Rattle.moka_history.specs.States.{Plan, Row}
 use Rattle.moka_history.specs.Logs.{entries_of, state_of}
-use Rattle.moka_history.specs.Moving.{Added, Adds, AnnouncesArray, BringsHome, HasCell, IsBrought, IsHome, Seals}
-use Rattle.moka_history.specs.Rules.{IsFront, IsKept}
+use Rattle.moka_history.specs.Moving.{Added, Adds, AnnouncesArray, BringsHome, HasCell, IsBrought, IsHome, Joins, Seals, WasReady}
+use Rattle.moka_history.specs.Rules.{IsFront, IsKept, IsRowStill}
 use Rattle.moka_history.proofs.Fronts.{lasts_now}
 use Rattle.moka_history.proofs.Lists.{more_get, no_item, one_item, prefix_through}
-use Rattle.moka_history.proofs.Owners.{row_is_row}
+use Rattle.moka_history.proofs.Owners.{row_is_row, row_not_bucket}
+use Rattle.moka_history.proofs.Resting.{row_through}
 use Rattle.moka_shared.specs.declared.answers.Missed.{Missed}
 use Rattle.moka_shared.specs.declared.answers.Missed.TheVariants as missed
 use Rattle.moka_shared.specs.Changes.{IsUndrawn}
+use Rattle.moka_shared.specs.Links.{JoinsRow}
 use Rattle.moka_shared.specs.Rows.{AreRow, HoldsTicket, IsAnnounced, IsOfRow, Leaves}
 use Rattle.moka_shared.specs.Probing.{GoesOn, IsLogOf}
 use Rattle.moka_shared.specs.Tables.{Table, word_named}
@@ -68,6 +70,20 @@ module _ {K V S : Type 0} (eq : K → K → Bool) (hash : S → K → ℕ) (plac
         let made = was_made _ _ (found == old) (eq-eqb found old same) told in
         subst (λ (n : ℕ). Leaves eq hash place key n note v.0 w.0) same (leaves made.0 made.1)
 
+    pub was_joined : Joins eq hash place (step key old new ask) v found w → found ≡ old → old ≡ 0 → JoinsRow eq hash place key v.1.0.key note v.0 w.0
+    was_joined told same none =
+        let made = was_made _ _ (found == old) (eq-eqb found old same) told in
+        let first : (l : Leaves eq hash place key found ask v.0 w.0) × WasReady v.1.0.key key ask (state_of l.writes.log) = (
+          record {
+            writes = record { log = made.added.log; begins = made.added.begins; was_kept = made.added.was_kept; holds = made.added.there; more = made.added.more; kept = made.added.kept };
+            entries = made.entries;
+          },
+          made.ready,
+        ) in
+        let then = subst (λ (n : ℕ). (l : Leaves eq hash place key n note v.0 w.0) × WasReady v.1.0.key key note (state_of l.writes.log)) (same ∙ none)
+        (subst (λ (n : Note K V S). (l : Leaves eq hash place key found n v.0 w.0) × WasReady v.1.0.key key n (state_of l.writes.log)) asks first) in
+        record { leaves = then.0; ready = then.1 }
+
   pub leaves_begin : (key found : ℕ) (note : Note K V S) (old new : List (Note K V S)) → Leaves eq hash place key found note old new → IsPrefix old new
   leaves_begin key found note old new x = prefix_through old x.writes.log new x.writes.begins (note ∷ [], sym x.writes.more)
 
@@ -93,27 +109,30 @@ module _ {K V S : Type 0} (eq : K → K → Bool) (hash : S → K → ℕ) (plac
         let long = length-append front begins.0 in
         omega (arith, some, all, long)
 
-    pub row_home : (key ticket : ℕ) → slice_get (state_of front).cells key ≡ Some (Row ticket true) → slice_get (state_of log).cells key ≡ Some (Row ticket true)
-    row_home key ticket at =
-        let (b, there, home) = (lasts_now eq hash place log kept front is_front).rows key ticket true at in
-        there ∙ ap (λ c. Some (Row ticket c)) (home refl)
+    pub row_still : (key ticket : ℕ) → IsRowStill (state_of front) key ticket true → IsRowStill (state_of log) key ticket true
+    row_still key ticket = row_through eq (place kept.hasher kept.segments) (state_of front) (state_of log) (lasts_now eq hash place log kept front is_front) key ticket true
 
     pub home_lasts : (key : ℕ) → IsHome key front → IsHome key log
     home_lasts key (inl (inl door)) = inl (inl door)
     home_lasts key (inl (inr at)) = inl (inr (at.0, at.1, (lasts_now eq hash place log kept front is_front).arrays at.0 at.1 key at.2))
-    home_lasts key (inr row) = inr (row.0, row_home key row.0 row.1)
+    home_lasts key (inr row) = inr (row.0, row_still key row.0 row.1)
 
     pub still_planned : (ticket : ℕ) → IsSome ((state_of front).plans ticket) → IsSome ((state_of log).plans ticket)
     still_planned ticket has = agrees_some (state_of log).plans (state_of front).plans (lasts_now eq hash place log kept front is_front).plans ticket has
 
     -- a cell that isn't home there is another than those that are home
-    pub apart : (key k ticket n : ℕ) → slice_get (state_of log).cells key ≡ Some (Row ticket false) → slice_get (state_of front).cells k ≡ Some (Row n true) → k ≢ key
-    apart key k ticket n away home same =
-        false≢true (sym (row_is_row (one_item (sym (row_home k n home) ∙ (ap (slice_get (state_of log).cells) same ∙ away)))).1)
+    pub apart : (key k ticket n : ℕ) → slice_get (state_of log).cells key ≡ Some (Row ticket false) → IsRowStill (state_of front) k n true → k ≢ key
+    apart key k ticket n away home same = by (row_still k n home)
+      where
+        by : IsRowStill (state_of log) k n true → ⊥
+        by (inl (c, at, still)) =
+            let is = one_item (sym at ∙ (ap (slice_get (state_of log).cells) same ∙ away)) in
+            false≢true (sym (row_is_row is).1 ∙ still refl)
+        by (inr (w, at, own)) = row_not_bucket (one_item (sym away ∙ (ap (slice_get (state_of log).cells) (sym same) ∙ at)))
 
     pub row_lasts : (b : Book) (ticket : ℕ) (words : List Named) → AreRow b ticket words front → AreRow b ticket words log
     row_lasts b ticket words are = record {
-      each = λ i w at. (let x = are.each i w at in record { named = x.named; home = row_home w.key ticket x.home });
+      each = λ i w at. (let x = are.each i w at in record { named = x.named; home = row_still w.key ticket x.home });
       differ = are.differ;
     }
 
@@ -121,6 +140,12 @@ module _ {K V S : Type 0} (eq : K → K → Bool) (hash : S → K → ℕ) (plac
     holds_ticket ticket plan pen x =
         let lasts = lasts_now eq hash place log kept front is_front in
         let (b, there, home) = lasts.announced pen.key ticket false x.there in
+        record { home = b; nib = x.nib; there = there; plan_is = lasts.plans ticket plan x.plan_is }
+
+    pub holds_yet : (ticket : ℕ) (plan : Plan) (pen : Nib) → HoldsTicket ticket plan pen front → HoldsTicket ticket plan pen log
+    holds_yet ticket plan pen x =
+        let lasts = lasts_now eq hash place log kept front is_front in
+        let (b, there, home) = lasts.announced pen.key ticket x.home x.there in
         record { home = b; nib = x.nib; there = there; plan_is = lasts.plans ticket plan x.plan_is }
 
 -- no words
@@ -160,7 +185,7 @@ row_first b ticket words w log none is = row_more b ticket words w log (no_row b
 pub row_grows : {K V S : Type 0} (eq : K → K → Bool) (hash : S → K → ℕ) (place : S → ℕ → K → ℕ) (front log : List (Note K V S)) (some : 0 < length front)
     (begins : IsPrefix front log) (kept : IsKept eq hash place log) (b : Book) (ticket : ℕ) (words : List Named) (w : Named) →
     AreRow b ticket words front → IsOfRow b ticket w log →
-    ((k n : ℕ) → slice_get (state_of front).cells k ≡ Some (Row n true) → k ≢ w.key) → AreRow b ticket (words ++ w ∷ []) log
+    ((k n : ℕ) → IsRowStill (state_of front) k n true → k ≢ w.key) → AreRow b ticket (words ++ w ∷ []) log
 row_grows eq hash place front log some begins kept b ticket words w are is other =
     row_more b ticket words w log (row_lasts eq hash place front log some begins kept b ticket words are) is
     (λ i v at. other v.key ticket (are.each i v at).home)

@@ -147,7 +147,7 @@ module _ {K V S : Type 0} (eq : K → K → Bool) (hash : S → K → ℕ) (plac
 
         pub met_there : is_sealed met ≡ false → IsMetThere (suc segment) index log met new
         met_there bare = elim (entry_between eq hash place new (kept_as eq hash place t new new_log) log
-            (record { some = opened_some t.segments t.size t.hasher log x.opened; begins = loads.goes_on.begins }) (suc segment) index differs) [
+            (record { some = opened_some t.segments t.size t.hasher log x.opened; begins = loads.goes_on.begins }) segment index below differs) [
               | inl sealed ↦ absurd (false≢true (sym bare ∙ (ap is_sealed (sym loads.there) ∙ sealed)))
               | inr came ↦ record { front = log; begins = prefix_self log; entry = came.0; there = came.1; met = loads.there }
             ]

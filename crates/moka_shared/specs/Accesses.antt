@@ -177,14 +177,14 @@ module _ {K V S : Type 0} (t : Table S) (hash passed : ℕ) (from : Word) (old n
     PutsBy (put.Missed m) = MissesBy m
     PutsBy put.Memory = Unit {0}
 
-    -- the same where the word stores nothing, or has the node that is present
+    -- how a put went where the word stores nothing, or has the node that is present
     abbrev pub StoresBy : {W : Type 0} → Put W → Type 0
     StoresBy put.Done = Exchanges × (stored_in from ≡ None)
     StoresBy (put.There value) = (n : ℕ) × (stored_in from ≡ Some n)
     StoresBy (put.Missed m) = MissesBy m × (stored_in from ≡ None)
     StoresBy put.Memory = Unit {0}
 
-    -- the same of a change
+    -- how a change went
     abbrev pub ChangesBy : {W : Type 0} → TryChange W → Type 0
     ChangesBy (change.Changed former) = Exchanges × ((n : ℕ) × (stored_in from ≡ Some n))
     ChangesBy change.Absent = stored_in from ≡ None

@@ -1,11 +1,13 @@
 -- The notes that steps ask for.
-use Rattle.std.specs.Prelude.{ℕ, Option}
+use Rattle.std.specs.Prelude.{ℕ, suc, Option, Some}
 use Rattle.std.specs.Option.{option_map}
 use Rattle.moka_history.specs.declared.note.Note.{Note}
-use Rattle.moka_history.specs.declared.note.Note.TheVariants.{Announced, Changed, ArrayAnnounced, CellAdded, CellHome, Sealed}
+use Rattle.moka_history.specs.declared.note.Note.TheVariants.{Announced, Changed, ArrayAnnounced, ArrayLinked, CellAdded, CellHome, Copied, Sealed}
 use Rattle.moka_shared.specs.declared.asked.Drawn.{Drawn}
 use Rattle.moka_shared.specs.declared.asked.Brought.{Brought}
+use Rattle.moka_shared.specs.declared.asked.Copying.{Copying}
 use Rattle.moka_shared.specs.declared.asked.Exchange.{Exchange}
+use Rattle.moka_shared.specs.declared.asked.Linking.{Linking}
 use Rattle.moka_shared.specs.declared.asked.Planned.{Planned}
 use Rattle.moka_shared.specs.declared.asked.Seal.{Seal}
 use denote.Ref.{Bor}
@@ -31,3 +33,9 @@ brought_note b = CellHome b.ticket b.pen.now.nib.key
 
 abbrev pub seal_note : {K V S : Type 0} → Seal → Note K V S
 seal_note s = Sealed s.array s.index s.to
+
+abbrev pub link_note : {K V S : Type 0} → Linking → Note K V S
+link_note l = ArrayLinked l.ticket l.segment (Some (suc l.segment)) l.keys.numbers
+
+abbrev pub copy_note : {K V S : Type 0} → Copying → Note K V S
+copy_note c = Copied c.array c.index c.to

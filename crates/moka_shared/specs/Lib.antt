@@ -11,3 +11,4 @@ pub mod Changes
 pub mod Inserts
 pub mod Removals
 pub mod Rows
+pub mod Links

@@ -14,6 +14,7 @@ use Rattle.moka_history.specs.States.{Array, Plan, Row, memory_of, words_in}
 use Rattle.moka_history.specs.Cells.{number_of}
 use Rattle.moka_history.specs.Keeping.{IsSmall}
 use Rattle.moka_history.specs.Logs.{entries_of, state_of}
+use Rattle.moka_history.specs.Rules.{IsRowStill}
 use Rattle.moka_shared.specs.declared.asked.Planned.{Planned}
 use Rattle.moka_shared.specs.declared.asked.Seal.{Seal}
 use Rattle.moka_shared.specs.declared.answers.Missed.{Missed}
@@ -64,11 +65,12 @@ pub record IsAdded {K V S : Type 0} (ticket : ℕ) (pen : Nib) (log : List (Note
     pub nib : pen ≡ nib may_write pen.key 1
     pub there : slice_get (state_of log).cells pen.key ≡ Some (Row ticket false)
 
--- the word is one of the book, and home for the ticket's array, which isn't linked
+-- the word is one of the book, and was made for the ticket's array; it is so still, or the array is
+-- linked
 pub record IsOfRow {K V S : Type 0} (b : Book) (ticket : ℕ) (word : Named) (log : List (Note K V S))
     : Type 0 where
   pub named : word ≡ word_named b word.key
-  pub home : slice_get (state_of log).cells word.key ≡ Some (Row ticket true)
+  pub home : IsRowStill (state_of log) word.key ticket true
 
 -- the words of a row, of which no two are one
 pub record AreRow {K V S : Type 0} (b : Book) (ticket : ℕ) (words : List Named)

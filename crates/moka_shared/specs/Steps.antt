@@ -33,7 +33,7 @@ module _ {K V S : Type 0} (eq : K → K → Bool) (hash : S → K → ℕ) (plac
     pub kept : IsKept eq hash place new
 
 module _ {K V S : Type 0} (eq : K → K → Bool) (hash : S → K → ℕ) (place : S → ℕ → K → ℕ) where
-  -- the same of the note of a change: it has one entry
+  -- the log that was found got the note of a change, which has one entry
   pub record Spends (key found : ℕ) (note : Note K V S) (old new : List (Note K V S)) : Type 0 where
     pub writes : Writes eq hash place key found note old new
     pub entry : Entry K V

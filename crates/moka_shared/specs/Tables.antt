@@ -21,19 +21,21 @@ names_of b = b.number ∷ b.log_name ∷ b.cells_name ∷ []
 abbrev pub word_named : Book → ℕ → Named
 word_named b key = record { tracked = true; key = key; book = b }
 
--- words of the book under the keys from 1 on
-pub record AreBuckets (b : Book) (count : ℕ) (words : List Named) : Type 0 where
+-- so many words of the book, under the keys from the first one on
+pub record AreWords (b : Book) (first count : ℕ) (words : List Named) : Type 0 where
   pub count_is : length words ≡ count
-  pub each : (i : ℕ) (w : Named) → slice_get words i ≡ Some w → w ≡ word_named b (1 + i)
+  pub each : (i : ℕ) (w : Named) → slice_get words i ≡ Some w → w ≡ word_named b (first + i)
 
--- The table's book begins with its note, its door is the first word, the next are the buckets, and
--- its shelf is for its nodes.
+-- The table's book begins with its note, its door is the first word, the next are the buckets, then
+-- comes for each segment the word that names the array after its first one, and its shelf is for its
+-- nodes.
 pub record IsTable {K V S : Type 0} (t : Table S) (start : List (Note K V S)) (door : Named)
-    (buckets : List Named) (owner : List ℕ) : Type 0 where
+    (buckets nexts : List Named) (owner : List ℕ) : Type 0 where
   pub begun : start ≡ Opened t.segments t.size t.hasher ∷ []
   pub some : 0 < t.segments
   pub power : IsPowerOfTwo t.size
   pub short : t.size ≤ 2 ^ 60
   pub door_is : door ≡ word_named t.book 0
-  pub buckets_are : AreBuckets t.book (t.segments * t.size) buckets
+  pub buckets_are : AreWords t.book 1 (t.segments * t.size) buckets
+  pub nexts_are : AreWords t.book (1 + t.segments * t.size) t.segments nexts
   pub owner_is : owner ≡ names_of t.book

@@ -92,3 +92,16 @@ pub(crate) enum Put<V> {
     /// Memory is wanting.
     Memory,
 }
+
+/// What a pass answers that is to link an array.
+#[derive(Clone, Copy, PartialEq, Eq, Debug)]
+pub enum TryLink {
+    /// It follows the segment's first array.
+    Linked,
+    /// The array of this number follows that one, by an earlier link.
+    There(u64),
+    /// The word of this bucket isn't sealed.
+    Open(usize),
+    /// An array that follows has so many words.
+    Length(usize),
+}

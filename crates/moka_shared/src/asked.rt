@@ -1,5 +1,6 @@
 //! What steps ask for.
 
+use boxcar::tag::Tag;
 use logbook::Pen;
 use moka_words::Word;
 
@@ -40,6 +41,22 @@ pub(crate) struct Brought<'a> {
 /// The exchange of a word for its seal.
 #[derive(Clone, Copy)]
 pub(crate) struct Seal {
+    pub(crate) array: u64,
+    pub(crate) index: usize,
+    pub(crate) to: Word,
+}
+
+/// The link of an array: its ticket, its segment, and the keys of its words.
+#[derive(Drop)]
+pub(crate) struct Linking {
+    pub(crate) ticket: u64,
+    pub(crate) segment: usize,
+    pub(crate) keys: Tag,
+}
+
+/// The copy of a word.
+#[derive(Clone, Copy)]
+pub(crate) struct Copying {
     pub(crate) array: u64,
     pub(crate) index: usize,
     pub(crate) to: Word,

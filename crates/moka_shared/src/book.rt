@@ -1,6 +1,6 @@
 //! The book of a table's history.
 
-use crate::asked::{Brought, Drawn, Exchange, Planned, Seal};
+use crate::asked::{Brought, Copying, Drawn, Exchange, Linking, Planned, Seal};
 use logbook::{Gain, Plain, Play, Rule};
 use moka_history::Note;
 use std::hash::{BuildHasher, Hash};
@@ -175,4 +175,44 @@ impl<K, V, S> Plain<Seal, Note<K, V, S>, u64> for SealWord {
     ghost ask = { λ seal. seal_note seal };
 
     ghost state = { λ seal. None };
+}
+
+/// A step that links an array.
+pub struct LinkArray;
+
+impl<K: Eq + Hash, V, S: BuildHasher> Play<Note<K, V, S>, u64> for LinkArray {
+    ghost use Rattle.moka_history.specs.Moving.{Joins};
+    ghost use Rattle.moka_shared.specs.Hashing.{hash_in, place_in};
+
+    ghost then = { Joins K.eq (hash_in S.BuildHasher S.Hasher.Hasher K.hash_input)
+        (place_in S.BuildHasher S.Hasher.Hasher K.hash_input) };
+}
+
+impl<K, V, S> Plain<Linking, Note<K, V, S>, u64> for LinkArray {
+    ghost use Rattle.std.specs.Prelude.{None};
+    ghost use Rattle.moka_shared.specs.Asks.{link_note};
+
+    ghost ask = { λ linking. link_note linking };
+
+    ghost state = { λ linking. None };
+}
+
+/// A step that copies a word.
+pub struct CopyWord;
+
+impl<K: Eq + Hash, V, S: BuildHasher> Play<Note<K, V, S>, u64> for CopyWord {
+    ghost use Rattle.moka_history.specs.Moving.{Copies};
+    ghost use Rattle.moka_shared.specs.Hashing.{hash_in, place_in};
+
+    ghost then = { Copies K.eq (hash_in S.BuildHasher S.Hasher.Hasher K.hash_input)
+        (place_in S.BuildHasher S.Hasher.Hasher K.hash_input) };
+}
+
+impl<K, V, S> Plain<Copying, Note<K, V, S>, u64> for CopyWord {
+    ghost use Rattle.std.specs.Prelude.{None};
+    ghost use Rattle.moka_shared.specs.Asks.{copy_note};
+
+    ghost ask = { λ copying. copy_note copying };
+
+    ghost state = { λ copying. None };
 }

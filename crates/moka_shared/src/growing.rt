@@ -26,7 +26,7 @@ use crate::row::Row;
 use crate::rows::{announce, make_word};
 use crate::seals::seal;
 use crate::seat::Seat;
-use crate::segments::position;
+use crate::segments::first_array;
 use crate::table::HashMap;
 use crate::words::{is_sealed, number_of, seal_of, word_of};
 use boxcar::tag::Tag;
@@ -44,9 +44,11 @@ impl<K: Eq + Hash, V, S: BuildHasher, P: Fact<K, V>, L: Shelf<Node<K, V, S, P>>>
     P,
     L,
 > {
-    /// Announces an array of so many words, which is to follow that of this segment, and makes its
-    /// words: they are unset, and part of no array. The words and the ticket are the caller's. Memory is
-    /// taken first.
+    /// Announces an array of so many words on the next ticket, which is to follow the segment's
+    /// array, and makes its words. Answers these as a row, with the ticket: they are unset, and part
+    /// of no array. `Memory` comes where there is none for the words, which is taken first; `Again`
+    /// where another caller draws the ticket meanwhile (`Missed::Ticket`), or where none is left
+    /// (`Missed::Spent`). Then this caller has drawn no ticket.
     pub fn try_open_row(
         &self,
         alloc: Global,
@@ -71,6 +73,7 @@ impl<K: Eq + Hash, V, S: BuildHasher, P: Fact<K, V>, L: Shelf<Node<K, V, S, P>>>
         ensures row { IfOk result (λ row. AreRow self.now.book row.ticket row.words.items
             seat.new.front.log) }
         ensures count { IfOk result (λ row. length row.words.items ≡ size) }
+        ensures pen { IfOk result (λ row. row.pen.book ≡ self.now.book) }
         ensures none { IfErr result (λ why. seat.new.drawn ≡ seat.old.drawn) }
         ensures again { IfErr result (IsNotOpened seat.old.front.log seat.new.front.log) }
     {
@@ -146,6 +149,7 @@ impl<K: Eq + Hash, V, S: BuildHasher, P: Fact<K, V>, L: Shelf<Node<K, V, S, P>>>
             (place_in S.BuildHasher S.Hasher.Hasher K.hash_input) self.now
             front.old.log front.new.log }
         ensures ticket { result.ticket ≡ drawn.ticket }
+        ensures pen { result.pen.book ≡ drawn.pen.book }
         ensures holds { (plan : Plan) → IsAnnounced drawn.ticket plan drawn.pen.nib
             front.old.log → HoldsTicket drawn.ticket plan result.pen.nib front.new.log }
         ensures row { AreRow self.now.book drawn.ticket result.words.items front.new.log }
@@ -190,8 +194,11 @@ impl<K: Eq + Hash, V, S: BuildHasher, P: Fact<K, V>, L: Shelf<Node<K, V, S, P>>>
         words
     }
 
-    /// Seals the word of this bucket of the segment's array, by one pass. Words may be sealed in any
-    /// order.
+    /// Seals the word of this bucket of the segment's array, by one pass. Words may be sealed in
+    /// any order. `Sealed` has the word that stands there for good, sealed by this caller or by
+    /// another one; `Again` comes where another caller exchanges the word meanwhile
+    /// (`Missed::Lost`). A sealed word takes no pair any more, and no array can follow so far: a
+    /// call that comes to it answers `Missed::Sealed`.
     pub fn try_seal(
         &self,
         seat: &mut Seat<K, V, S, L::Look>,
@@ -248,11 +255,10 @@ impl<K: Eq + Hash, V, S: BuildHasher, P: Fact<K, V>, L: Shelf<Node<K, V, S, P>>>
             × (is_sealed met ≡ false
             → IsMetThere (suc segment) index front.old.log met front.new.log)) }
     {
-        let at = position(self.segments, self.size, segment, index);
-        let bucket = &self.buckets[at];
+        let bucket = self.bucket(segment, index);
         let to = seal_of(word);
         let asked = Seal {
-            array: segment as u64 + 1,
+            array: first_array(self.segments, segment),
             index,
             to,
         };

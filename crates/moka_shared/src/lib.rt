@@ -9,6 +9,8 @@ mod fact;
 mod front;
 mod growing;
 mod insert;
+mod linking;
+mod links;
 mod look;
 mod node;
 mod open;
@@ -25,7 +27,7 @@ mod table;
 mod tickets;
 mod words;
 
-pub use answers::{Missed, TryChange, TryGet, TryInsert, TrySeal, Unopened};
+pub use answers::{Missed, TryChange, TryGet, TryInsert, TryLink, TrySeal, Unopened};
 pub use book::Law;
 pub use fact::{Anything, Fact};
 pub use node::Node;

@@ -5,7 +5,7 @@ ghost use mathlib.Core.List.{IsPrefix};
 ghost use Rattle.moka_history.specs.Entries.{IsLegal};
 ghost use Rattle.moka_history.specs.Logs.{entries_of};
 ghost use Rattle.moka_shared.specs.Changes.{AreMade};
-ghost use Rattle.moka_shared.specs.Tables.{AreBuckets, names_of};
+ghost use Rattle.moka_shared.specs.Tables.{AreWords, names_of};
 
 use crate::Fact;
 use crate::book::Law;
@@ -86,23 +86,26 @@ fn all_words(segments: usize, size: usize) -> Result<usize, AllocError>
     Ok(count)
 }
 
-// The words of a book that come after its first one. None of them has been made.
-fn make_buckets<K: Eq + Hash, V, S: BuildHasher>(
+// So many words of a book, the next ones that haven't been made.
+fn make_words<K: Eq + Hash, V, S: BuildHasher>(
     alloc: Global,
     pens: &mut Pens,
     count: usize,
 ) -> Result<Vec<Bucket<Note<K, V, S>, u64, Law>>, AllocError>
-    requires next { pens.old.next ≡ 1 }
-    requires left { pens.old.left ≡ count }
-    ensures { IfOk result (λ buckets. AreBuckets pens.old.book count buckets.items) }
+    requires { count ≤ pens.old.left }
+    ensures words { IfOk result (λ words. AreWords pens.old.book pens.old.next count
+        words.items) }
+    ensures book { IfOk result (λ words. pens.new.book ≡ pens.old.book) }
+    ensures next { IfOk result (λ words. pens.new.next ≡ pens.old.next + count) }
+    ensures left { IfOk result (λ words. pens.new.left ≡ pens.old.left - count) }
 {
-    let mut buckets = Vec::with_capacity(alloc, count)?;
+    let mut words = Vec::with_capacity(alloc, count)?;
     let mut made = 0;
     while made < count {
-        buckets.push_reserved(Bucket::tracked(0, &mut pens.take()));
+        words.push_reserved(Bucket::tracked(0, &mut pens.take()));
         made += 1;
     }
-    Ok(buckets)
+    Ok(words)
 }
 
 impl<
@@ -173,9 +176,11 @@ impl<
         ensures hasher { IfOk result (λ t. t.hasher ≡ plan.hasher) }
     {
         let count = all_words(plan.segments, plan.size)?;
-        let (start, mut pens) = Seen::open_row::<Plan<S>, Opens>(&plan, Start::alone(), count + 1);
+        let all = count + plan.segments + 1;
+        let (start, mut pens) = Seen::open_row::<Plan<S>, Opens>(&plan, Start::alone(), all);
         let door = Bucket::tracked(0, &mut pens.take());
-        let buckets = make_buckets(alloc, &mut pens, count)?;
+        let buckets = make_words(alloc, &mut pens, count)?;
+        let nexts = make_words(alloc, &mut pens, plan.segments)?;
         let names = Tag::of::<Seen<Note<K, V, S>, u64, Law>, OfBook>(&start);
         let shelf = L::for_table(alloc, &names)?;
         let Plan {
@@ -190,6 +195,7 @@ impl<
             start,
             door,
             buckets,
+            nexts,
             shelf,
             of: PhantomData,
         })

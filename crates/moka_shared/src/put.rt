@@ -23,7 +23,6 @@ use crate::book::Law;
 use crate::front::{draw, exchange, look};
 use crate::node::Node;
 use crate::seat::Seat;
-use crate::segments::{bucket_at, position, segment_of};
 use crate::table::HashMap;
 use crate::tickets::with_ticket;
 use crate::words::{is_sealed, number_of, word_of};
@@ -261,14 +260,12 @@ impl<K: Eq + Hash, V, S: BuildHasher, P: Fact<K, V>, L: Shelf<Node<K, V, S, P>>>
             front.new.log) }
         ensures none { IfErr result (λ word. made_on ticket (entries_of front.new.log) ≡ 0) }
     {
-        let segment = segment_of(self.segments, gap.hash);
-        let index = bucket_at(self.size, gap.hash, gap.passed);
-        let at = position(self.segments, self.size, segment, index);
-        let bucket = &self.buckets[at];
+        let place = self.place_of(gap.hash, gap.passed);
+        let bucket = self.bucket(place.segment, place.index);
         let asked = Exchange {
             ticket,
-            array: segment as u64 + 1,
-            index,
+            array: place.segment as u64 + 1,
+            index: place.index,
             to,
         };
         match exchange(

@@ -4,7 +4,7 @@ ghost use Rattle.std.specs.List.{slice_get};
 ghost use mathlib.Core.List.{IsPrefix};
 ghost use Rattle.moka_history.specs.Logs.{state_of};
 ghost use Rattle.moka_history.specs.Moving.{IsHome};
-ghost use Rattle.moka_history.specs.Rules.{IsKept};
+ghost use Rattle.moka_history.specs.Rules.{IsKept, IsRowStill};
 ghost use Rattle.moka_history.specs.States.{Row};
 ghost use Rattle.moka_history.specs.declared.note.Note.TheVariants.{CellHome};
 ghost use Rattle.moka_shared.specs.Asks.{added_note, planned_note};
@@ -144,8 +144,7 @@ pub(crate) fn make_word<K: Eq + Hash, V, S: BuildHasher>(
     ensures kept { IsKept K.eq (hash_in S.BuildHasher S.Hasher.Hasher K.hash_input)
         (place_in S.BuildHasher S.Hasher.Hasher K.hash_input) front.new.log }
     ensures word { IsOfRow front.new.book ticket result front.new.log }
-    ensures other { (k n : ℕ) → slice_get (state_of front.old.log).cells k ≡ Some (Row n true)
-        → k ≢ result.key }
+    ensures other { (k n : ℕ) → IsRowStill (state_of front.old.log) k n true → k ≢ result.key }
     ensures makes { MakesWord K.eq (hash_in S.BuildHasher S.Hasher.Hasher K.hash_input)
         (place_in S.BuildHasher S.Hasher.Hasher K.hash_input) at.now.key ticket result.key
         front.old.log front.new.log }

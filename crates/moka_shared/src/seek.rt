@@ -14,7 +14,6 @@ use crate::Fact;
 use crate::book::Law;
 use crate::node::Node;
 use crate::probe::{Ended, Met};
-use crate::segments::{bucket_at, segment_of};
 use crate::table::HashMap;
 use logbook::Seen;
 use moka_history::Note;
@@ -70,10 +69,9 @@ impl<K: Eq + Hash, V, S: BuildHasher, P: Fact<K, V>, L: Shelf<Node<K, V, S, P>>>
         ensures stops { StopsAt self.now hash front.new.log (hiding L.hidden L.last hidden.old)
             (hiding L.hidden L.last hidden.new) result }
     {
-        let segment = segment_of(self.segments, hash);
         for passed in 0..self.size {
-            let index = bucket_at(self.size, hash, passed);
-            let word = self.load(front, segment, index);
+            let place = self.place_of(hash, passed);
+            let word = self.load(front, place.segment, place.index);
             let met = self.meets(front, hidden, word, eq);
             match met {
                 Met::Other => {}

@@ -4,6 +4,13 @@ ghost use Rattle.std.specs.Int.{IsPowerOfTwo};
 ghost use Rattle.moka_words.specs.Arrays.{bucket_at};
 ghost use Rattle.moka_shared.specs.Hashing.{segment_of};
 
+/// A bucket: its segment, and its index in the segment's array.
+#[derive(Clone, Copy)]
+pub(crate) struct Place {
+    pub(crate) segment: usize,
+    pub(crate) index: usize,
+}
+
 /// The segment of a hash, of so many segments.
 pub(crate) fn segment_of(segments: usize, hash: u64) -> usize
     requires some { 0 < segments }
@@ -23,6 +30,14 @@ pub(crate) fn bucket_at(size: usize, hash: u64, passed: usize) -> usize
 {
     let mask = size - 1;
     ((hash as usize & mask) + passed) & mask
+}
+
+/// The number of the first array of a segment.
+pub(crate) fn first_array(segments: usize, segment: usize) -> u64
+    requires { segment < segments }
+    ensures { result ≡ segment + 1 }
+{
+    segment as u64 + 1
 }
 
 /// Where the bucket of a segment lies among those of all segments, one array after the other.

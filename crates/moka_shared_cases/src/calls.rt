@@ -1,7 +1,7 @@
 //! Calls of tables of numbers, made by the tests.
 ghost use Rattle.std.specs.Prelude.{◌≡◌};
 
-use moka_shared::{HashMap, Seat, TryChange, TryGet, TryInsert, TrySeal, Unopened};
+use moka_shared::{HashMap, Seat, TryChange, TryGet, TryInsert, TryLink, TrySeal, Unopened};
 use moka_words::Word;
 use std::alloc::{AllocError, Global};
 use std::hash::BuildHasher;
@@ -95,6 +95,25 @@ impl<'a, S: BuildHasher + Drop> Caller<'a, S> {
         }
         match self.table.try_open_row(alloc, &mut self.seat, 0, length) {
             Ok(row) => Ok((row.len(), row.ticket())),
+            Err(why) => Err(why),
+        }
+    }
+
+    /// Makes a row of so many words for the first segment, and links it. Answers what comes of it, and
+    /// the row's ticket.
+    pub(crate) fn link(
+        &mut self,
+        alloc: Global,
+        length: usize,
+    ) -> Result<(TryLink, u64), Unopened> {
+        if self.table.actual_num_segments() == 0 {
+            return Err(Unopened::Memory);
+        }
+        match self.table.try_open_row(alloc, &mut self.seat, 0, length) {
+            Ok(mut row) => {
+                let link = self.table.try_link(&mut self.seat, 0, &mut row);
+                Ok((link, row.ticket()))
+            }
             Err(why) => Err(why),
         }
     }

@@ -1,8 +1,10 @@
-//! A row that is made for a new array, and words that are sealed.
+//! A row that is made for a new array, words that are sealed, and the row's link.
 
 use crate::hashers::BuildLast;
-use crate::rows::Deed::{Get, Open, Put, Seal, SealAll};
-use crate::rows::Told::{Again, Count, Inserted, Memory, PutBack, Sealed, Value};
+use crate::rows::Deed::{Get, Link, Open, Put, PutAll, Seal, SealAll};
+use crate::rows::Told::{
+    Again, Count, Inserted, Length, Linked, Memory, PutBack, Sealed, There, Value,
+};
 use crate::rows::{Row, Told, wrong_row};
 use moka_shared::Missed;
 use moka_words::Word;
@@ -44,6 +46,33 @@ fn calls_stop_at_sealed_words(rt: HostRuntime) -> Result<(), Fail> {
         Row(Seal(127), Sealed(word)),
         Row(Get(1), Again(missed)),
         Row(Put(1, 11), PutBack(missed, 1, 11)),
+    ];
+    assert_eq!(rt; wrong_row(rt.alloc(), 1, 64, BuildLast {}, &rows)?, None);
+    Ok(())
+}
+
+// The array that follows is as long as the first one, and the second caller's row comes too late.
+#[test]
+fn an_array_is_linked_once(rt: HostRuntime) -> Result<(), Fail> {
+    let rows = [
+        Row(Link(128), Told::Open(0)),
+        Row(SealAll(128), Count(128)),
+        Row(Link(256), Length(128)),
+        Row(Link(128), Linked(4)),
+        Row(Link(128), There(4)),
+    ];
+    assert_eq!(rt; wrong_row(rt.alloc(), 1, 64, BuildLast {}, &rows)?, None);
+    Ok(())
+}
+
+// Of 128 words more than seven tenths store pairs.
+#[test]
+fn an_array_after_a_full_one_is_twice_as_long(rt: HostRuntime) -> Result<(), Fail> {
+    let rows = [
+        Row(PutAll(0, 90), Count(90)),
+        Row(SealAll(128), Count(38)),
+        Row(Link(128), Length(256)),
+        Row(Link(256), Linked(93)),
     ];
     assert_eq!(rt; wrong_row(rt.alloc(), 1, 64, BuildLast {}, &rows)?, None);
     Ok(())

@@ -2,7 +2,7 @@
 ghost use Rattle.std.specs.Prelude.{◌<◌, ◌≤◌};
 
 use crate::calls::Caller;
-use moka_shared::{HashMap, Missed, TryChange, TryGet, TryInsert, TrySeal, Unopened};
+use moka_shared::{HashMap, Missed, TryChange, TryGet, TryInsert, TryLink, TrySeal, Unopened};
 use moka_words::Word;
 use std::alloc::{AllocError, Global};
 use std::hash::BuildHasher;
@@ -27,6 +27,8 @@ pub(crate) enum Deed {
     GetAll(u64, u64),
     /// A row of so many words is made for the first segment.
     Open(usize),
+    /// A row of so many words is made for the first segment, and linked.
+    Link(usize),
     /// The word of this bucket of the first segment is sealed.
     Seal(usize),
     /// The words of the first segment before this bucket are sealed, and counted where they were
@@ -53,6 +55,14 @@ pub(crate) enum Told {
     Memory,
     /// A row has so many words, and this ticket.
     Row(usize, u64),
+    /// The array of this number follows the segment's first one, by this caller.
+    Linked(u64),
+    /// It does by an earlier link.
+    There(u64),
+    /// The word of this bucket isn't sealed.
+    Open(usize),
+    /// An array that follows has so many words.
+    Length(usize),
     /// This word stands there for good.
     Sealed(Word),
     /// There are so many.
@@ -115,6 +125,7 @@ fn tell<S: BuildHasher + Drop>(alloc: Global, caller: &mut Caller<'_, S>, deed: 
         Deed::PutAll(first, end) => Told::Count(caller.put_all(first, end)),
         Deed::GetAll(first, end) => Told::Count(caller.get_all(first, end)),
         Deed::Open(length) => row_told(caller.row(alloc, length)),
+        Deed::Link(length) => link_told(caller.link(alloc, length)),
         Deed::Seal(index) => seal_told(caller.seal(index)),
         Deed::SealAll(end) => Told::Count(caller.seal_all(end)),
     }
@@ -154,6 +165,18 @@ pub(crate) fn get_told(answer: &Result<TryGet<u64>, AllocError>) -> Told {
 fn row_told(row: Result<(usize, u64), Unopened>) -> Told {
     match row {
         Ok((length, ticket)) => Told::Row(length, ticket),
+        Err(Unopened::Again(missed)) => Told::Again(missed),
+        Err(Unopened::Memory) => Told::Memory,
+    }
+}
+
+// What is told of a link.
+fn link_told(link: Result<(TryLink, u64), Unopened>) -> Told {
+    match link {
+        Ok((TryLink::Linked, ticket)) => Told::Linked(ticket),
+        Ok((TryLink::There(array), _)) => Told::There(array),
+        Ok((TryLink::Open(index), _)) => Told::Open(index),
+        Ok((TryLink::Length(length), _)) => Told::Length(length),
         Err(Unopened::Again(missed)) => Told::Again(missed),
         Err(Unopened::Memory) => Told::Memory,
     }

@@ -1,4 +1,4 @@
-use Rattle.std.proofs.Common.{◌∙◌, ap, subst, sym}
+use Rattle.std.proofs.Common.{◌∙◌, ap, inl, subst, sym, true}
 use Rattle.std.specs.List.{slice_get}
 use Rattle.moka_history.specs.Logs.{state_of}
 use Rattle.moka_history.specs.declared.note.Note.TheVariants.{CellAdded, CellHome}
@@ -18,10 +18,8 @@ bring_home-requires-clause-some g c =
     let mid = c.add_cell-word.new.front.log in
     let adds = c.add_cell-word.ensures.leaves in
     let at = c.args.at.now.key in
-    let pen = c.add_cell-word.result.1.nib.key in
     let begins = leaves_begin eq hash place at adds.0 (CellAdded c.args.ticket) old mid adds.1 in
     let kept = adds.1.writes.kept in
-    let key_is = ap (λ x. x.key) c.add_cell-word.ensures.word in
     some_more eq hash place old mid c.requires.some begins kept
 
 pub bring_home-requires-clause-home : goal.bring_home-requires-clause-home
@@ -33,10 +31,8 @@ bring_home-requires-clause-home g c =
     let mid = c.add_cell-word.new.front.log in
     let adds = c.add_cell-word.ensures.leaves in
     let at = c.args.at.now.key in
-    let pen = c.add_cell-word.result.1.nib.key in
     let begins = leaves_begin eq hash place at adds.0 (CellAdded c.args.ticket) old mid adds.1 in
     let kept = adds.1.writes.kept in
-    let key_is = ap (λ x. x.key) c.add_cell-word.ensures.word in
     home_lasts eq hash place old mid c.requires.some begins kept at c.requires.home
 
 pub returns-clause-begins : goal.returns-clause-begins
@@ -52,8 +48,6 @@ returns-clause-begins g c =
     let at = c.args.at.now.key in
     let pen = c.add_cell-word.result.1.nib.key in
     let begins = leaves_begin eq hash place at adds.0 (CellAdded c.args.ticket) old mid adds.1 in
-    let kept = adds.1.writes.kept in
-    let key_is = ap (λ x. x.key) c.add_cell-word.ensures.word in
     prefix_through old mid new begins (leaves_begin eq hash place at brings.0 (CellHome c.args.ticket pen) mid new brings.1)
 
 pub returns-clause-kept : goal.returns-clause-kept
@@ -61,22 +55,12 @@ returns-clause-kept g c = c.bring_home.ensures.leaves.1.writes.kept
 
 pub returns-clause-word : goal.returns-clause-word
 returns-clause-word g c =
-    let eq = g.K.PartialEq.eq in
-    let hash = hash_in g.S.BuildHasher g.S.Hasher.Hasher g.K.Hash.hash_input in
-    let place = place_in g.S.BuildHasher g.S.Hasher.Hasher g.K.Hash.hash_input in
-    let old = c.args.front.now.log in
-    let mid = c.add_cell-word.new.front.log in
     let new = c.bring_home.new.front.log in
-    let adds = c.add_cell-word.ensures.leaves in
-    let brings = c.bring_home.ensures.leaves in
-    let at = c.args.at.now.key in
     let pen = c.add_cell-word.result.1.nib.key in
-    let begins = leaves_begin eq hash place at adds.0 (CellAdded c.args.ticket) old mid adds.1 in
-    let kept = adds.1.writes.kept in
     let key_is = ap (λ x. x.key) c.add_cell-word.ensures.word in
     record {
       named = c.add_cell-word.ensures.word ∙ (ap (λ b. word_named b pen) (sym c.bring_home.ensures.book) ∙ ap (λ k. word_named c.bring_home.new.front.book k) (sym key_is));
-      home = ap (slice_get (state_of new).cells) key_is ∙ c.bring_home.ensures.home;
+      home = inl (true, ap (slice_get (state_of new).cells) key_is ∙ c.bring_home.ensures.home, λ h. h);
     }
 
 pub returns-clause-other : goal.returns-clause-other
@@ -86,9 +70,7 @@ returns-clause-other g c = λ k n at_home same.
     let place = place_in g.S.BuildHasher g.S.Hasher.Hasher g.K.Hash.hash_input in
     let old = c.args.front.now.log in
     let mid = c.add_cell-word.new.front.log in
-    let new = c.bring_home.new.front.log in
     let adds = c.add_cell-word.ensures.leaves in
-    let brings = c.bring_home.ensures.leaves in
     let at = c.args.at.now.key in
     let pen = c.add_cell-word.result.1.nib.key in
     let begins = leaves_begin eq hash place at adds.0 (CellAdded c.args.ticket) old mid adds.1 in
@@ -101,15 +83,11 @@ returns-clause-makes g c =
     let eq = g.K.PartialEq.eq in
     let hash = hash_in g.S.BuildHasher g.S.Hasher.Hasher g.K.Hash.hash_input in
     let place = place_in g.S.BuildHasher g.S.Hasher.Hasher g.K.Hash.hash_input in
-    let old = c.args.front.now.log in
     let mid = c.add_cell-word.new.front.log in
     let new = c.bring_home.new.front.log in
     let adds = c.add_cell-word.ensures.leaves in
     let brings = c.bring_home.ensures.leaves in
     let at = c.args.at.now.key in
-    let pen = c.add_cell-word.result.1.nib.key in
-    let begins = leaves_begin eq hash place at adds.0 (CellAdded c.args.ticket) old mid adds.1 in
-    let kept = adds.1.writes.kept in
     let key_is = ap (λ x. x.key) c.add_cell-word.ensures.word in
     record {
       added = mid;

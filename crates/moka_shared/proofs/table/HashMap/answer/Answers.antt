@@ -99,7 +99,6 @@ returns-in-Hidden-clause-again g c = λ before hidden stops.
     let eq = g.K.PartialEq.eq in
     let hash = hash_in g.S.BuildHasher g.S.Hasher.Hasher g.K.Hash.hash_input in
     let place = place_in g.S.BuildHasher g.S.Hasher.Hasher g.K.Hash.hash_input in
-    let equals = divided g.S.BuildHasher g.S.Hasher.Hasher g.K.Hash.hash_input eq g.met.K.Eq.laws g.met.K.Hash.respects_eq in
     let t = c.args.self.now in
     let log = c.args.front.now.log in
     let below = segment_below t.segments c.args.hash c.requires.log.some (let f = c.ranges.hash.fits in omega (arith, f)) in

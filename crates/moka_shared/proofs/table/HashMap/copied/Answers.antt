@@ -2,7 +2,6 @@ use Rattle.std.proofs.Common.{◌∙◌, arith, sym}
 use Rattle.moka_words.proofs.Laying.{stored_is_key}
 use Rattle.moka_shared.specs.Hashing.{hash_in, place_in}
 use Rattle.moka_shared.specs.Probing.{ReadsNode}
-use Rattle.moka_shared.proofs.Divided.{divided}
 use Rattle.moka_shared.proofs.Loading.{pair_read}
 use Rattle.moka_shared.proofs.Placed.{segment_below}
 use Rattle.moka_shared.proofs.table.HashMap.copied.Goals as goal
@@ -12,7 +11,6 @@ copied_from-requires-clause-named g c =
     let eq = g.K.PartialEq.eq in
     let hash = hash_in g.S.BuildHasher g.S.Hasher.Hasher g.K.Hash.hash_input in
     let place = place_in g.S.BuildHasher g.S.Hasher.Hasher g.K.Hash.hash_input in
-    let equals = divided g.S.BuildHasher g.S.Hasher.Hasher g.K.Hash.hash_input eq g.met.K.Eq.laws g.met.K.Hash.respects_eq in
     let t = c.args.self.now in
     let log = c.args.front.now.log in
     let below = segment_below t.segments c.args.hash c.requires.log.some (let f = c.ranges.hash.fits in omega (arith, f)) in

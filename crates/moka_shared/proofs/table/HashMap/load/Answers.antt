@@ -1,9 +1,7 @@
-use Rattle.std.proofs.Common.{◌≡◌, ◌∙◌, ◌+◌, ◌*◌, ◌<◌, ℕ, Some, ap, inr, subst, suc, sym}
+use Rattle.std.proofs.Common.{◌∙◌, ℕ, Some, ap, inr, subst, suc, sym}
 use Rattle.moka_shared.specs.Hashing.{hash_in, place_in}
 use Rattle.moka_shared.specs.Steps.{Sees}
-use Rattle.moka_shared.specs.Tables.{IsTable}
 use Rattle.moka_shared.proofs.Loading.{loaded, opened_some, row_is}
-use Rattle.moka_shared.proofs.Buckets.{bucket_read}
 use Rattle.moka_shared.proofs.table.HashMap.load.Goals as goal
 
 pub look-number-requires : goal.look-number-requires
@@ -12,21 +10,15 @@ look-number-requires g c =
     let hash = hash_in g.S.BuildHasher g.S.Hasher.Hasher g.K.Hash.hash_input in
     let place = place_in g.S.BuildHasher g.S.Hasher.Hasher g.K.Hash.hash_input in
     let t = c.args.self.now in
-    let buckets = c.self.inside.buckets.items in
-    let well = subst (λ s. IsTable s c.self.inside.start.log c.self.inside.door buckets (g.L.Shelf.owner c.self.inside.shelf)) c.self.view_is c.self.invariant in
-    let at = c.position-at.result in
-    let bucket = c.index-bucket.result.now in
-    let inside = subst (λ s. at < s.segments * s.size) c.self.view_is c.position-at.ensures.within in
-    let is = bucket_read t.book (t.segments * t.size) buckets at bucket well.buckets_are inside c.index-bucket.ensures in
-    let at_is = c.position-at.ensures.is ∙ ap (λ n. c.args.segment * n + c.args.index) (ap (λ s. s.size) c.self.view_is) in
-    let key_is = ap (λ w. w.key) is ∙ ap (λ n. 1 + n) at_is in
+    let is = c.bucket-bucket.ensures in
     record {
       book = (ap (λ w. w.tracked) is, ap (λ w. w.book) is ∙ sym c.requires.book);
       some = opened_some t.segments t.size t.hasher c.args.front.now.log c.requires.log.opened;
       place = inr (
         suc c.args.segment,
         c.args.index,
-        row_is eq hash place t c.args.front.now.log c.requires.log c.args.segment c.args.index c.requires.segment c.requires.index ∙ ap Some (sym key_is),
+        row_is eq hash place t c.args.front.now.log c.requires.log c.args.segment c.args.index c.requires.segment c.requires.index
+            ∙ ap Some (sym (ap (λ w. w.key) is)),
       );
     }
 
@@ -36,14 +28,7 @@ returns-clause-loads g c =
     let hash = hash_in g.S.BuildHasher g.S.Hasher.Hasher g.K.Hash.hash_input in
     let place = place_in g.S.BuildHasher g.S.Hasher.Hasher g.K.Hash.hash_input in
     let t = c.args.self.now in
-    let buckets = c.self.inside.buckets.items in
-    let well = subst (λ s. IsTable s c.self.inside.start.log c.self.inside.door buckets (g.L.Shelf.owner c.self.inside.shelf)) c.self.view_is c.self.invariant in
-    let at = c.position-at.result in
-    let bucket = c.index-bucket.result.now in
-    let inside = subst (λ s. at < s.segments * s.size) c.self.view_is c.position-at.ensures.within in
-    let is = bucket_read t.book (t.segments * t.size) buckets at bucket well.buckets_are inside c.index-bucket.ensures in
-    let at_is = c.position-at.ensures.is ∙ ap (λ n. c.args.segment * n + c.args.index) (ap (λ s. s.size) c.self.view_is) in
-    let key_is : bucket.key ≡ 1 + (c.args.segment * t.size + c.args.index) = ap (λ w. w.key) is ∙ ap (λ n. 1 + n) at_is in
-    let sees = subst (λ (k : ℕ). Sees eq hash place k c.look-number.result c.args.front.now.log c.look-number.new.front.log) key_is c.look-number.ensures.sees in
+    let sees = subst (λ (k : ℕ). Sees eq hash place k c.look-number.result c.args.front.now.log c.look-number.new.front.log) (ap (λ w. w.key) c.bucket-bucket.ensures)
+    c.look-number.ensures.sees in
     loaded eq hash place t c.args.front.now.log c.look-number.new.front.log c.requires.log c.args.segment c.args.index c.requires.segment c.requires.index
     c.look-number.result sees c.word_of.result c.word_of.ensures

@@ -1,4 +1,6 @@
+use Rattle.std.proofs.Common.{rules, ◌≡◌, ◌∙◌, ◌+◌, ◌*◌, arith, subst}
 use Rattle.moka_shared.specs.Hashing.{hash_in, place_in}
+use Rattle.moka_shared.specs.Tables.{AreWords}
 use Rattle.moka_shared.proofs.Beginning.{opens}
 use Rattle.moka_shared.proofs.Divided.{divided}
 use Rattle.moka_shared.proofs.table.HashMap.opened.Goals as goal
@@ -14,3 +16,34 @@ open_row-start-requires g c =
       (λ log. tt),
       c.alone.ensures.1,
     )
+
+pub invariant_of-result : goal.invariant_of-result
+invariant_of-result g c =
+    let t = c.args.plan in
+    let row = c.open_row-start.ensures in
+    let pens = c.take.new.self in
+    let rest = c.take.ensures.rest in
+    let book : pens.book ≡ c.open_row-start.result.0.book = rest.0 ∙ row.2 in
+    let one = rest.1 in
+    let zero = row.3 in
+    let next : pens.next ≡ 1 = omega (arith, one, zero) in
+    let buckets = c.in_ok-buckets.buckets.items in
+    let more = c.make_words.new.pens in
+    let more_book : more.book ≡ c.open_row-start.result.0.book = c.in_ok-buckets.ensures.book ∙ book in
+    let past = c.in_ok-buckets.ensures.next in
+    let count = c.in_ok-count.ensures.count in
+    let more_next : more.next ≡ 1 + t.segments * t.size = omega (arith, past, next, count) in
+    let nexts = c.in_ok-nexts.nexts.items in
+    record {
+      begun = row.1;
+      some = c.requires.some;
+      power = c.requires.power;
+      short = c.requires.short;
+      door_is = search rules;
+      buckets_are = subst (λ b. AreWords b 1 (t.segments * t.size) buckets) book
+          (subst (λ n. AreWords pens.book n (t.segments * t.size) buckets) next
+          (subst (λ n. AreWords pens.book pens.next n buckets) count c.in_ok-buckets.ensures.words));
+      nexts_are = subst (λ b. AreWords b (1 + t.segments * t.size) t.segments nexts) more_book
+          (subst (λ n. AreWords more.book n t.segments nexts) more_next c.in_ok-nexts.ensures.words);
+      owner_is = search rules;
+    }

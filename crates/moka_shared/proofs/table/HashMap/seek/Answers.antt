@@ -1,16 +1,15 @@
 use Rattle.std.proofs.Common.{◌≡◌, ◌∙◌, ◌<◌, ◌^◌, ap, arith, refl, subst}
 use Rattle.moka_shelf.specs.Looks.{hiding}
-use Rattle.moka_words.specs.Arrays.{bucket_at}
 use Rattle.moka_history.specs.Logs.{state_of}
 use Rattle.moka_history.proofs.Lists.{prefix_self, prefix_through}
-use Rattle.moka_shared.specs.Hashing.{hash_in, place_in, segment_of}
+use Rattle.moka_shared.specs.Hashing.{hash_in, place_in}
 use Rattle.moka_shared.specs.Meeting.{Hides, Meets, Stops}
 use Rattle.moka_shared.specs.Probing.{HasProbed}
 use Rattle.moka_shared.specs.Tables.{IsTable, names_of}
 use Rattle.moka_shared.proofs.Courses.{course_begins, course_full, power_some, probe_breaks, probe_ends, probe_passes}
 use Rattle.moka_shared.proofs.Divided.{divided}
 use Rattle.moka_shared.proofs.Loading.{goes_through, reads_at}
-use Rattle.moka_shared.proofs.Placed.{segment_below}
+use Rattle.moka_shared.proofs.Placed.{same_segment, segment_below}
 use Rattle.moka_shared.proofs.Probed.{begins_probed, goes_past, stops_open}
 use Rattle.moka_shared.proofs.table.HashMap.seek.Goals as goal
 
@@ -29,7 +28,7 @@ loop-passed-init g c =
       course = λ key k has computes h_is.
           course_begins eq hash place equals t key (segment_below t.segments (hash t.hasher key) c.requires.log.some (subst (λ n. n < 2 ^ 64) h_is (let f = c.ranges.hash.fits in omega (arith, f))))
           c.args.hash h_is k has c.args.front.now.log c.requires.log
-          (power_some t.size (subst (λ s. IsTable s c.self.inside.start.log c.self.inside.door c.self.inside.buckets.items (g.L.Shelf.owner c.self.inside.shelf)) c.self.view_is c.self.invariant).power);
+          (power_some t.size (subst (λ s. IsTable s c.self.inside.start.log c.self.inside.door c.self.inside.buckets.items c.self.inside.nexts.items (g.L.Shelf.owner c.self.inside.shelf)) c.self.view_is c.self.invariant).power);
       knows = λ key computes h_is. (
         computes,
         begins_probed eq hash place equals t key (segment_below t.segments (hash t.hasher key) c.requires.log.some (subst (λ n. n < 2 ^ 64) h_is (let f = c.ranges.hash.fits in omega (arith, f))))
@@ -59,9 +58,9 @@ loop-passed-preserved g c =
           let known = inv.knows key computes h_is in
           let told = c.meets-met.ensures.meets (eq key) known.0 in
           probe_passes eq hash place equals t key (segment_below t.segments (hash t.hasher key) c.requires.log.some (subst (λ n. n < 2 ^ 64) h_is (let f = c.ranges.hash.fits in omega (arith, f))))
-          c.args.hash h_is k has c.args.front.now.log old new inv.goes_on.is_log c.segment_of-segment.result c.bucket_at-index.result c.load-word.result c.load-word.ensures.loads
-          (c.segment_of-segment.ensures.is ∙ (ap (λ s. segment_of s.segments c.args.hash) c.self.view_is ∙ ap (segment_of t.segments) h_is))
-          c.loop-passed.passed (c.bucket_at-index.ensures.bucket ∙ ap (λ s. bucket_at s.size c.args.hash c.loop-passed.passed) c.self.view_is)
+          c.args.hash h_is k has c.args.front.now.log old new inv.goes_on.is_log c.place_of-place.result.segment c.place_of-place.result.index c.load-word.result c.load-word.ensures.loads
+          (same_segment t.segments c.place_of-place.result.segment c.args.hash (hash t.hasher key) c.place_of-place.ensures.segment h_is)
+          c.loop-passed.passed c.place_of-place.ensures.index
           (subst (λ s. c.loop-passed.passed < s.size) c.self.view_is c.loop-passed-test.true) known.1 (inv.course key k has computes h_is)
           (subst (λ m. Meets (eq key) (state_of new).pairs c.load-word.result m) met told.1);
       knows = λ key computes h_is.
@@ -69,9 +68,9 @@ loop-passed-preserved g c =
           let told = c.meets-met.ensures.meets (eq key) known.0 in (
             told.0,
             goes_past eq hash place equals t key (segment_below t.segments (hash t.hasher key) c.requires.log.some (subst (λ n. n < 2 ^ 64) h_is (let f = c.ranges.hash.fits in omega (arith, f))))
-                c.args.hash h_is old new inv.goes_on.is_log c.segment_of-segment.result c.bucket_at-index.result c.load-word.result loads
-                (c.segment_of-segment.ensures.is ∙ (ap (λ s. segment_of s.segments c.args.hash) c.self.view_is ∙ ap (segment_of t.segments) h_is))
-                c.loop-passed.passed (c.bucket_at-index.ensures.bucket ∙ ap (λ s. bucket_at s.size c.args.hash c.loop-passed.passed) c.self.view_is)
+                c.args.hash h_is old new inv.goes_on.is_log c.place_of-place.result.segment c.place_of-place.result.index c.load-word.result loads
+                (same_segment t.segments c.place_of-place.result.segment c.args.hash (hash t.hasher key) c.place_of-place.ensures.segment h_is)
+                c.loop-passed.passed c.place_of-place.ensures.index
                 (subst (λ s. c.loop-passed.passed < s.size) c.self.view_is c.loop-passed-test.true) known.1
                 (subst (λ m. Meets (eq key) (state_of new).pairs c.load-word.result m) met told.1),
           );
@@ -90,9 +89,9 @@ returns-in-Open-clause-ends g c = λ key computes h_is.
     let known = inv.knows key computes h_is in
     let told = c.meets-met.ensures.meets (eq key) known.0 in
     stops_open eq hash place equals t key (segment_below t.segments (hash t.hasher key) c.requires.log.some (subst (λ n. n < 2 ^ 64) h_is (let f = c.ranges.hash.fits in omega (arith, f))))
-    c.args.hash h_is old new inv.goes_on.is_log c.segment_of-segment.result c.bucket_at-index.result c.load-word.result c.load-word.ensures.loads
-    (c.segment_of-segment.ensures.is ∙ (ap (λ s. segment_of s.segments c.args.hash) c.self.view_is ∙ ap (segment_of t.segments) h_is))
-    c.loop-passed.passed (c.bucket_at-index.ensures.bucket ∙ ap (λ s. bucket_at s.size c.args.hash c.loop-passed.passed) c.self.view_is)
+    c.args.hash h_is old new inv.goes_on.is_log c.place_of-place.result.segment c.place_of-place.result.index c.load-word.result c.load-word.ensures.loads
+    (same_segment t.segments c.place_of-place.result.segment c.args.hash (hash t.hasher key) c.place_of-place.ensures.segment h_is)
+    c.loop-passed.passed c.place_of-place.ensures.index
     (subst (λ s. c.loop-passed.passed < s.size) c.self.view_is c.loop-passed-test.true) known.1 c.in-Open.node
     (subst (λ m. Meets (eq key) (state_of new).pairs c.load-word.result m) c.in-Open.is told.1)
 
@@ -116,9 +115,9 @@ returns-in-Open-clause-stops g c =
     let inv = c.loop-passed.invariant in
     let old = c.loop-passed.front.log in
     let new = c.load-word.new.front.log in
-    let reads = reads_at eq hash place t old new c.segment_of-segment.result c.bucket_at-index.result c.load-word.result c.load-word.ensures.loads c.args.hash c.loop-passed.passed
-    (c.segment_of-segment.ensures.is ∙ ap (λ s. segment_of s.segments c.args.hash) c.self.view_is)
-    (c.bucket_at-index.ensures.bucket ∙ ap (λ s. bucket_at s.size c.args.hash c.loop-passed.passed) c.self.view_is)
+    let reads = reads_at eq hash place t old new c.place_of-place.result.segment c.place_of-place.result.index c.load-word.result c.load-word.ensures.loads c.args.hash c.loop-passed.passed
+    c.place_of-place.ensures.segment
+    c.place_of-place.ensures.index
     (subst (λ s. c.loop-passed.passed < s.size) c.self.view_is c.loop-passed-test.true) in
     let stops = subst (λ m. Stops (names_of t.book) c.load-word.result (hiding g.L.Shelf.hidden g.L.Shelf.last c.loop-passed.hidden)
     (hiding g.L.Shelf.hidden g.L.Shelf.last c.meets-met.new.hidden) m) c.in-Open.is c.meets-met.ensures.stops in
@@ -144,9 +143,9 @@ returns-in-Hidden-clause-stops g c =
     let inv = c.loop-passed.invariant in
     let old = c.loop-passed.front.log in
     let new = c.load-word.new.front.log in
-    let reads = reads_at eq hash place t old new c.segment_of-segment.result c.bucket_at-index.result c.load-word.result c.load-word.ensures.loads c.args.hash c.loop-passed.passed
-    (c.segment_of-segment.ensures.is ∙ ap (λ s. segment_of s.segments c.args.hash) c.self.view_is)
-    (c.bucket_at-index.ensures.bucket ∙ ap (λ s. bucket_at s.size c.args.hash c.loop-passed.passed) c.self.view_is)
+    let reads = reads_at eq hash place t old new c.place_of-place.result.segment c.place_of-place.result.index c.load-word.result c.load-word.ensures.loads c.args.hash c.loop-passed.passed
+    c.place_of-place.ensures.segment
+    c.place_of-place.ensures.index
     (subst (λ s. c.loop-passed.passed < s.size) c.self.view_is c.loop-passed-test.true) in
     let stops = subst (λ m. Stops (names_of t.book) c.load-word.result (hiding g.L.Shelf.hidden g.L.Shelf.last c.loop-passed.hidden)
     (hiding g.L.Shelf.hidden g.L.Shelf.last c.meets-met.new.hidden) m) c.in-Hidden.is c.meets-met.ensures.stops in (
@@ -174,9 +173,9 @@ returns-in-Sealed-clause-stops g c =
     let inv = c.loop-passed.invariant in
     let old = c.loop-passed.front.log in
     let new = c.load-word.new.front.log in
-    let reads = reads_at eq hash place t old new c.segment_of-segment.result c.bucket_at-index.result c.load-word.result c.load-word.ensures.loads c.args.hash c.loop-passed.passed
-    (c.segment_of-segment.ensures.is ∙ ap (λ s. segment_of s.segments c.args.hash) c.self.view_is)
-    (c.bucket_at-index.ensures.bucket ∙ ap (λ s. bucket_at s.size c.args.hash c.loop-passed.passed) c.self.view_is)
+    let reads = reads_at eq hash place t old new c.place_of-place.result.segment c.place_of-place.result.index c.load-word.result c.load-word.ensures.loads c.args.hash c.loop-passed.passed
+    c.place_of-place.ensures.segment
+    c.place_of-place.ensures.index
     (subst (λ s. c.loop-passed.passed < s.size) c.self.view_is c.loop-passed-test.true) in
     let stops = subst (λ m. Stops (names_of t.book) c.load-word.result (hiding g.L.Shelf.hidden g.L.Shelf.last c.loop-passed.hidden)
     (hiding g.L.Shelf.hidden g.L.Shelf.last c.meets-met.new.hidden) m) c.in-Sealed.is c.meets-met.ensures.stops in
@@ -197,15 +196,15 @@ returns-in-Open-clause-course g c = λ key k has computes h_is.
     let come = inv.course key k has computes h_is in
     let told = c.meets-met.ensures.meets (eq key) known.0 in
     let ends = stops_open eq hash place equals t key (segment_below t.segments (hash t.hasher key) c.requires.log.some (subst (λ n. n < 2 ^ 64) h_is (let f = c.ranges.hash.fits in omega (arith, f))))
-    c.args.hash h_is old new inv.goes_on.is_log c.segment_of-segment.result c.bucket_at-index.result c.load-word.result c.load-word.ensures.loads
-    (c.segment_of-segment.ensures.is ∙ (ap (λ s. segment_of s.segments c.args.hash) c.self.view_is ∙ ap (segment_of t.segments) h_is))
-    c.loop-passed.passed (c.bucket_at-index.ensures.bucket ∙ ap (λ s. bucket_at s.size c.args.hash c.loop-passed.passed) c.self.view_is)
+    c.args.hash h_is old new inv.goes_on.is_log c.place_of-place.result.segment c.place_of-place.result.index c.load-word.result c.load-word.ensures.loads
+    (same_segment t.segments c.place_of-place.result.segment c.args.hash (hash t.hasher key) c.place_of-place.ensures.segment h_is)
+    c.loop-passed.passed c.place_of-place.ensures.index
     (subst (λ s. c.loop-passed.passed < s.size) c.self.view_is c.loop-passed-test.true) known.1 c.in-Open.node
     (subst (λ m. Meets (eq key) (state_of new).pairs c.load-word.result m) c.in-Open.is told.1) in
     probe_ends eq hash place equals t key (segment_below t.segments (hash t.hasher key) c.requires.log.some (subst (λ n. n < 2 ^ 64) h_is (let f = c.ranges.hash.fits in omega (arith, f))))
-    c.args.hash h_is k has first old new inv.goes_on.is_log c.segment_of-segment.result c.bucket_at-index.result c.load-word.result c.load-word.ensures.loads
-    (c.segment_of-segment.ensures.is ∙ (ap (λ s. segment_of s.segments c.args.hash) c.self.view_is ∙ ap (segment_of t.segments) h_is))
-    c.loop-passed.passed (c.bucket_at-index.ensures.bucket ∙ ap (λ s. bucket_at s.size c.args.hash c.loop-passed.passed) c.self.view_is)
+    c.args.hash h_is k has first old new inv.goes_on.is_log c.place_of-place.result.segment c.place_of-place.result.index c.load-word.result c.load-word.ensures.loads
+    (same_segment t.segments c.place_of-place.result.segment c.args.hash (hash t.hasher key) c.place_of-place.ensures.segment h_is)
+    c.loop-passed.passed c.place_of-place.ensures.index
     (subst (λ s. c.loop-passed.passed < s.size) c.self.view_is c.loop-passed-test.true) known.1 come ends
 
 pub returns-in-Hidden-clause-course : goal.returns-in-Hidden-clause-course
@@ -222,9 +221,9 @@ returns-in-Hidden-clause-course g c = λ key k has computes h_is.
     let known = inv.knows key computes h_is in
     let come = inv.course key k has computes h_is in
     probe_breaks eq hash place equals t key (segment_below t.segments (hash t.hasher key) c.requires.log.some (subst (λ n. n < 2 ^ 64) h_is (let f = c.ranges.hash.fits in omega (arith, f))))
-    c.args.hash h_is k has first old new inv.goes_on.is_log c.segment_of-segment.result c.bucket_at-index.result c.load-word.result c.load-word.ensures.loads
-    (c.segment_of-segment.ensures.is ∙ (ap (λ s. segment_of s.segments c.args.hash) c.self.view_is ∙ ap (segment_of t.segments) h_is))
-    c.loop-passed.passed (c.bucket_at-index.ensures.bucket ∙ ap (λ s. bucket_at s.size c.args.hash c.loop-passed.passed) c.self.view_is)
+    c.args.hash h_is k has first old new inv.goes_on.is_log c.place_of-place.result.segment c.place_of-place.result.index c.load-word.result c.load-word.ensures.loads
+    (same_segment t.segments c.place_of-place.result.segment c.args.hash (hash t.hasher key) c.place_of-place.ensures.segment h_is)
+    c.loop-passed.passed c.place_of-place.ensures.index
     (subst (λ s. c.loop-passed.passed < s.size) c.self.view_is c.loop-passed-test.true) known.1 come
 
 pub returns-in-Sealed-clause-course : goal.returns-in-Sealed-clause-course
@@ -241,9 +240,9 @@ returns-in-Sealed-clause-course g c = λ key k has computes h_is.
     let known = inv.knows key computes h_is in
     let come = inv.course key k has computes h_is in
     probe_breaks eq hash place equals t key (segment_below t.segments (hash t.hasher key) c.requires.log.some (subst (λ n. n < 2 ^ 64) h_is (let f = c.ranges.hash.fits in omega (arith, f))))
-    c.args.hash h_is k has first old new inv.goes_on.is_log c.segment_of-segment.result c.bucket_at-index.result c.load-word.result c.load-word.ensures.loads
-    (c.segment_of-segment.ensures.is ∙ (ap (λ s. segment_of s.segments c.args.hash) c.self.view_is ∙ ap (segment_of t.segments) h_is))
-    c.loop-passed.passed (c.bucket_at-index.ensures.bucket ∙ ap (λ s. bucket_at s.size c.args.hash c.loop-passed.passed) c.self.view_is)
+    c.args.hash h_is k has first old new inv.goes_on.is_log c.place_of-place.result.segment c.place_of-place.result.index c.load-word.result c.load-word.ensures.loads
+    (same_segment t.segments c.place_of-place.result.segment c.args.hash (hash t.hasher key) c.place_of-place.ensures.segment h_is)
+    c.loop-passed.passed c.place_of-place.ensures.index
     (subst (λ s. c.loop-passed.passed < s.size) c.self.view_is c.loop-passed-test.true) known.1 come
 
 pub returns-clause-course : goal.returns-clause-course
@@ -258,7 +257,7 @@ returns-clause-course g c = λ key k has computes h_is.
     let all : c.loop-passed.passed ≡ c.self.inside.size = omega (arith, most, least) in
     course_full eq hash place equals t key (segment_below t.segments (hash t.hasher key) c.requires.log.some (subst (λ n. n < 2 ^ 64) h_is (let f = c.ranges.hash.fits in omega (arith, f))))
     c.args.hash h_is k has c.args.front.now.log c.loop-passed.front.log c.loop-passed.passed (all ∙ ap (λ s. s.size) c.self.view_is)
-    (power_some t.size (subst (λ s. IsTable s c.self.inside.start.log c.self.inside.door c.self.inside.buckets.items (g.L.Shelf.owner c.self.inside.shelf)) c.self.view_is c.self.invariant).power)
+    (power_some t.size (subst (λ s. IsTable s c.self.inside.start.log c.self.inside.door c.self.inside.buckets.items c.self.inside.nexts.items (g.L.Shelf.owner c.self.inside.shelf)) c.self.view_is c.self.invariant).power)
     (c.loop-passed.invariant.course key k has computes h_is)
 
 pub returns-clause-ends : goal.returns-clause-ends

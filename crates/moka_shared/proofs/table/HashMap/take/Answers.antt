@@ -24,7 +24,6 @@ change_on-requires-clause-can g c =
     let key = c.args.key.now in
     let mid = c.draw_for.new.front.log in
     let goes = c.draw_for.ensures.goes_on in
-    let drawn = c.in-Ok.ensures.drawn.1 in
     let ticket = c.in-Ok.drawn.ticket in
     let own_below : place t.hasher t.segments key < t.segments = subst (λ n. segment_of t.segments n < t.segments) c.requires.hash c.requires.below in
     let there = pair eq hash place equals t key own_below gap.hash c.requires.hash old.front.log c.requires.log (bucket_at t.size gap.hash gap.passed) c.args.number

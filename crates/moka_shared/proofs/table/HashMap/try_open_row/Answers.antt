@@ -1,10 +1,17 @@
-use Rattle.std.proofs.Common.{arith}
+use Rattle.std.proofs.Common.{◌∙◌, arith}
 use Rattle.moka_history.proofs.Lists.{prefix_through}
 use Rattle.moka_shared.specs.Hashing.{hash_in, place_in}
 use Rattle.moka_shared.proofs.Answered.{legal_of}
 use Rattle.moka_shared.proofs.Rowing.{undrawn_since}
 use Rattle.moka_shared.proofs.Since.{last_since, made_lasts}
 use Rattle.moka_shared.proofs.table.HashMap.try_open_row.Goals as goal
+
+pub returns-in_default-clause-legal : goal.returns-in_default-clause-legal
+returns-in_default-clause-legal g c =
+    let eq = g.K.PartialEq.eq in
+    let hash = hash_in g.S.BuildHasher g.S.Hasher.Hasher g.K.Hash.hash_input in
+    let place = place_in g.S.BuildHasher g.S.Hasher.Hasher g.K.Hash.hash_input in
+    legal_of eq hash place c.learn.new.self.log c.learn.ensures.4.1.1
 
 pub returns-in_default-clause-made : goal.returns-in_default-clause-made
 returns-in_default-clause-made g c = λ made.
@@ -49,6 +56,9 @@ returns-in-Ok-announce_for-clause-late g c =
     let late = c.in-Ok-announce_for.ensures.late in
     let ticket = c.opened_row.ensures.ticket in
     omega (arith, rises, late, ticket)
+
+pub returns-in-Ok-announce_for-clause-pen : goal.returns-in-Ok-announce_for-clause-pen
+returns-in-Ok-announce_for-clause-pen g c = c.opened_row.ensures.pen ∙ (c.in-Ok-announce_for.ensures.pen ∙ (c.announce_for.ensures.book ∙ (c.learn.ensures.0 ∙ c.requires.seat)))
 
 pub returns-in-Err-clause-legal : goal.returns-in-Err-clause-legal
 returns-in-Err-clause-legal g c =
