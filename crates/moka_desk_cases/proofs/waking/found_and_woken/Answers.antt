@@ -19,13 +19,13 @@ not_locked : {S H : Type 0} {same : PartialEq.Ghosts ℕ} {hash : Hash.Ghosts �
 not_locked desk w none unkept true stands = (told w 1 answer.Done, stands, (none, unkept))
 not_locked desk w none unkept false stands = (w, stands, (none, unkept))
 
-pub lock_key-kept-requires : goal.lock_key-kept-requires
-lock_key-kept-requires c = record { free = (c.requires.0, c.requires.1, (c.requires.3, c.requires.4)) }
+pub lock_key-requires : goal.lock_key-requires
+lock_key-requires c = record { free = (c.requires.0, c.requires.1, (c.requires.3, c.requires.4)) }
 
-pub lock_key-taken-requires : goal.lock_key-taken-requires
-lock_key-taken-requires c =
+pub lock_key-requires-2 : goal.lock_key-requires-2
+lock_key-requires-2 c =
     let w = c.requires.0 in
     let other : is_unlocked_for w 2 5 ≡ false = ap (λ o. option_map_or (λ h. h == 2) o true) c.requires.2 in
-    let waits = subst (λ b. StandsFor nat_eq c.lock_key-kept.new.self (locked_by nat_eq w 2 5 b)) other
+    let waits = subst (λ b. StandsFor nat_eq c.lock_key.new.self (locked_by nat_eq w 2 5 b)) other
     (c.in_ok-kept.ensures.makes w c.requires.1 (c.requires.3, c.requires.4)) in
     record { free = not_locked c.tell.new.self w c.requires.3 c.requires.4 (is_some c.tell.result) (c.tell.ensures.makes w waits) }
