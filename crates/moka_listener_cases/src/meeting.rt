@@ -4,7 +4,7 @@ use crate::calls::{insert_once, once};
 use futures::executor::block_on;
 use futures::future::join;
 use futures::task::{Context, Poll};
-use moka_cache::{CacheBuilder, Listener, ListenerEnd, PollError, Polled};
+use moka_cache::{CacheBuilder, Listener, ListenerEnd, PollError, Polled, State};
 use moka_cache_runs::asks::Asks;
 use moka_cache_runs::caches::{Heard, HearsAny};
 use moka_cache_runs::calls::Call::{Lent, Own};
@@ -116,19 +116,32 @@ fn has_inserted<R: Wait + RandomSource + AllocGlobal>(
     Ok(caller.run(&Own(1, OfKey(Insert(value))))? == Reply::Done)
 }
 
+// Polls two calls in one task. The first is dropped after two polls. Tells what the other answered.
+fn beside<R: Wait + RandomSource + AllocGlobal, S: State<R, Output: Drop>>(
+    rt: &R,
+    dropped: S,
+    other: S,
+) -> io::Result<Result<S::Output, PollError>>
+    requires dropped { S.can_poll dropped }
+    requires other { S.can_poll other }
+{
+    let dropped = DropsAfter {
+        polls: 2,
+        future: Some(Polled::new(rt, dropped, 0)),
+    };
+    let other = Polled::new(rt, other, 0);
+    let (_, answer) = block_on(rt, join(dropped, other))?;
+    Ok(answer)
+}
+
 // Inserts 6 and 7 under key 1, in one task. The insert of 6 is dropped after two polls, and that of 7
 // waits for the lock by then.
 fn insert_beside_dropped<R: Wait + RandomSource + AllocGlobal>(
     rt: &R,
     cache: &Heard<Watches>,
 ) -> io::Result<Result<(), PollError>> {
-    let dropped = DropsAfter {
-        polls: 2,
-        future: Some(Polled::new(rt, numbers(cache.insert(1, 6)), 0)),
-    };
-    let other = Polled::new(rt, numbers(cache.insert(1, 7)), 0);
-    let (_, inserted) = block_on(rt, join(dropped, other))?;
-    Ok(inserted)
+    let dropped = numbers(cache.insert(1, 6));
+    beside(rt, dropped, numbers(cache.insert(1, 7)))
 }
 
 // Inserts under key 1: every third call is cancelled once it was polled. Tells whether it did what
