@@ -1,4 +1,5 @@
 pub mod Turning
+pub mod Polling
 pub mod Staging
 pub mod Staying
 pub mod Advancing
@@ -8,3 +9,5 @@ pub mod Telling
 pub mod Loading
 pub mod Giving
 pub mod Ending
+pub mod Meeting
+pub mod Answering

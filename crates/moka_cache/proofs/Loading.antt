@@ -22,7 +22,8 @@ use Rattle.moka_laws.specs.Starts.{kind_loaded, may_answer}
 use Rattle.moka_laws.proofs.Counting.{none_some, some_same}
 use Rattle.moka_shapes.specs.Computes.{taken}
 use Rattle.moka_shapes.specs.Loads.{FollowsEnd, FollowsTold, LoadsTell, MayGiveLoad, MayLeadLoad, judged, looked, read}
-use Rattle.moka_kept.specs.Paths.{EndedWith, IsGiven, LeadsWith}
+use Rattle.moka_kept.specs.Facts.{Facts, plain}
+use Rattle.moka_kept.specs.Paths.{EndedWith, GivenSo, LeadsWith}
 use Rattle.moka_kept.specs.Taking.{Answered, Taken}
 use Rattle.moka_cache.specs.Asked.{TellsOption, TellsResult, TellsValue, ToldSuch}
 use Rattle.moka_cache.specs.Entries.{loaded_entry_in, optionally_loaded_entry_in, try_loaded_entry_in}
@@ -41,11 +42,11 @@ use Rattle.moka_cache.proofs.Telling.{either, such_told}
 
 -- ---- a way of a load
 
-module _ {K V E : Type 0} (eq : K → K → Bool) (such : Taken V E → Type 0) (n : ℕ) where
-  may_give_load : (c : Call K V E) (given : Got K V E) → IsGiven eq n c given → MayGiveLoad eq n c given
-  may_give_load c given by = record { gives = record { world = by.world; after = by.after; gets = by.gets }; ends = by.ends }
+module _ {K V E : Type 0} (f : Facts K V) (such : Taken V E → Type 0) (n : ℕ) where
+  may_give_load : (c : Call K V E) (given : Got K V E) → GivenSo f n c given → MayGiveLoad f.eq n c given
+  may_give_load c given by = record { gives = record { world = by.gave.world; after = by.gave.after; gets = by.gave.gets }; ends = by.gave.ends }
 
-  may_lead_load : (c : Call K V E) (path : List (Access K V E × Got K V E)) (d : Call K V E) → LeadsWith eq such n c path d → MayLeadLoad eq n c (what_gave path) d
+  may_lead_load : (c : Call K V E) (path : List (Access K V E × Got K V E)) (d : Call K V E) → LeadsWith f such n c path d → MayLeadLoad f.eq n c (what_gave path) d
   may_lead_load c [] d led = led
   may_lead_load c (made ∷ more) d led = (led.0, may_give_load c made.1 led.2, led.3, may_lead_load led.0 more d led.5)
 
@@ -59,23 +60,23 @@ record Holds {K V E : Type 0} (kind : Kind) (such : Told V E → Type 0) (P : An
   gave_up : P answer.RetriesExhausted
 
 -- so it holds of its answer
-module _ {K V E : Type 0} (eq : K → K → Bool) (law : LoadsTell K V E eq) (such : Taken V E → Type 0) (rules : Rules) (begin : Start K V) (kind : Kind)
+module _ {K V E : Type 0} (f : Facts K V) (law : LoadsTell K V E f.eq) (such : Taken V E → Type 0) (rules : Rules) (begin : Start K V) (kind : Kind)
     (loads : kind_loaded begin ≡ Some kind) (P : Answer K V E → Type 0) (holds : Holds kind (λ t. such (Answered t)) P) (n : ℕ) (said : Answer K V E) where
-  answers_so : EndedWith eq such n (fresh_call 1 rules begin) (answers said) → P said
+  answers_so : EndedWith f such n (fresh_call 1 rules begin) (answers said) → P said
   answers_so end =
       let path : List (Got K V E) = what_gave end.came.0 in
       let whole : List (Got K V E) = path ++ end.given ∷ [] in
       either ((t : Told V E) × Contains whole (taken t) × FollowsTold t said)
       (((with : Settled V E) × Contains whole (read with) × FollowsEnd kind with said) ⊎ ((there : K) × (stored : Stored V) × Contains whole (looked there stored) × Contains whole judged × (said ≡ answer.Loaded stored.value false))
       ⊎ (Contains whole (read settled.Aborted) × (said ≡ answer.RetriesExhausted))) (P said)
-      (λ by. holds.told by.0 said (such_told eq such n (fresh_call 1 rules begin) (answers said) end by.0 by.1) by.2)
+      (λ by. holds.told by.0 said (such_told f such n (fresh_call 1 rules begin) (answers said) end by.0 by.1) by.2)
       (either ((with : Settled V E) × Contains whole (read with) × FollowsEnd kind with said)
       (((there : K) × (stored : Stored V) × Contains whole (looked there stored) × Contains whole judged × (said ≡ answer.Loaded stored.value false)) ⊎ (Contains whole (read settled.Aborted) × (said ≡ answer.RetriesExhausted))) (P said)
       (λ by. holds.ended by.0 said by.2)
       (either ((there : K) × (stored : Stored V) × Contains whole (looked there stored) × Contains whole judged × (said ≡ answer.Loaded stored.value false)) (Contains whole (read settled.Aborted) × (said ≡ answer.RetriesExhausted)) (P said)
       (λ by. subst P (sym by.4) (holds.found by.1.value)) (λ by. subst P (sym by.1) holds.gave_up)))
-      (law 1 rules begin kind n path end.call end.given said loads (may_lead_load eq such n (fresh_call 1 rules begin) end.came.0 end.call end.came.1)
-      (may_give_load eq such n end.call end.given end.last) (sym (ap (λ (x : Next K V E). x.turn) end.follows)))
+      (law 1 rules begin kind n path end.call end.given said loads (may_lead_load f such n (fresh_call 1 rules begin) end.came.0 end.call end.came.1)
+      (may_give_load f such n end.call end.given end.last) (sym (ap (λ (x : Next K V E). x.turn) end.follows)))
 
 -- an initializer that gives something is there
 gives_some : {I R : Type 0} (P : I → Type 0) (init : Option I) → ((i : I) → P i → R) → IsSomeAnd init P → R
@@ -145,9 +146,9 @@ module _ {A K V E O : Type 0} (eq : K → K → Bool) (law : LoadsTell K V E eq)
       (outputs : Outputs start) (holds : (begin : A) → Holds kind such (λ said. may_answer (start begin) said ≡ true)) where
     load_tells : (made : Stage A K V E) (begin : A) → made ≡ stage.Fresh begin → Tells eq such (called rules start) output made
     load_tells made begin is named said by =
-        let ended : AnswersWith eq (ToldSuch such) (called rules start) (stage.Fresh begin) said = subst (λ s. AnswersWith eq (ToldSuch such) (called rules start) s said) is by in
+        let ended : AnswersWith (plain V eq) (ToldSuch such) (called rules start) (stage.Fresh begin) said = subst (λ s. AnswersWith (plain V eq) (ToldSuch such) (called rules start) s said) is by in
         outputs begin named said
-        (answers_so eq law (ToldSuch such) rules (start begin) kind (loads begin) (λ a. may_answer (start begin) a ≡ true) (holds begin) ended.0 said ended.1)
+        (answers_so (plain V eq) law (ToldSuch such) rules (start begin) kind (loads begin) (λ a. may_answer (start begin) a ≡ true) (holds begin) ended.0 said ended.1)
 
   pub value_tells : {I : Type 0} (gives : I → V → Type 0) (asked : ByInit I) (replace : A → Option ℕ)
       → Outputs (λ it. begins.GetWith (key it) (replace it)) → (made : Stage A K V E) (begin : A) → made ≡ stage.Fresh begin

@@ -22,7 +22,8 @@ use Rattle.moka_cache.specs.Entries.{entry_in}
 use Rattle.moka_cache.specs.Stages.{AnswersWith, CameOnWith}
 use Rattle.moka_cache.specs.Starts.{called}
 use Rattle.moka_cache.specs.Suits.{IsAnswerOf, Suits, Tells}
-use Rattle.moka_kept.proofs.Ways.{came_weaker, ended_on, ended_weaker}
+use Rattle.moka_kept.specs.Facts.{Facts, plain}
+use Rattle.moka_kept.proofs.Ways.{came_plain, came_weaker, ended_on, ended_plain, ended_weaker}
 use Rattle.moka_cache.specs.declared.stage.Stage.{Stage}
 use Rattle.moka_cache.specs.declared.stage.Stage.TheVariants as stage
 
@@ -39,29 +40,29 @@ module _ {K V E : Type 0} (eq : K → K → Bool) (n : ℕ) where
   pub may_give : (c : Call K V E) (given : Got K V E) → IsGiven eq n c given → MayBeGiven eq n c given
   may_give c given by = record { world = by.world; after = by.after; gets = by.gets }
 
-module _ {K V E : Type 0} (eq : K → K → Bool) (such : Taken V E → Type 0) (n : ℕ) where
-  pub may_lead : (c : Call K V E) (path : List (Access K V E × Got K V E)) (d : Call K V E) → LeadsWith eq such n c path d → MayLead eq n c (what_gave path) d
+module _ {K V E : Type 0} (f : Facts K V) (such : Taken V E → Type 0) (n : ℕ) where
+  pub may_lead : (c : Call K V E) (path : List (Access K V E × Got K V E)) (d : Call K V E) → LeadsWith f such n c path d → MayLead f.eq n c (what_gave path) d
   may_lead c [] d led = led
-  may_lead c (made ∷ more) d led = (led.0, may_give eq n c made.1 led.2, led.3, may_lead led.0 more d led.5)
+  may_lead c (made ∷ more) d led = (led.0, may_give f.eq n c made.1 led.2.gave, led.3, may_lead led.0 more d led.5)
 
   -- on its way the call keeps fitting
-  fits_on : (begin : Start K V) (c d : Call K V E) → Fits eq n begin c → CameWith eq such n c d → Fits eq n begin d
+  fits_on : (begin : Start K V) (c d : Call K V E) → Fits f.eq n begin c → CameWith f such n c d → Fits f.eq n begin d
   fits_on begin c d fits came path e given a led gives answers =
-      fits (what_gave came.0 ++ path) e given a (lead_on eq n c (what_gave came.0) d path e (may_lead c came.0 d came.1) led) gives answers
+      fits (what_gave came.0 ++ path) e given a (lead_on f.eq n c (what_gave came.0) d path e (may_lead c came.0 d came.1) led) gives answers
 
   -- and so it answers
-  fits_end : (begin : Start K V) (c : Call K V E) (a : Answer K V E) → Fits eq n begin c → EndedWith eq such n c (answers a) → may_answer begin a ≡ true
+  fits_end : (begin : Start K V) (c : Call K V E) (a : Answer K V E) → Fits f.eq n begin c → EndedWith f such n c (answers a) → may_answer begin a ≡ true
   fits_end begin c a fits end =
       fits (what_gave end.came.0) end.call end.given a (may_lead c end.came.0 end.call end.came.1)
-      (may_give eq n end.call end.given end.last) (sym (ap (λ (x : Next K V E). x.turn) end.follows))
+      (may_give f.eq n end.call end.given end.last.gave) (sym (ap (λ (x : Next K V E). x.turn) end.follows))
 
-module _ {A K V E : Type 0} (eq : K → K → Bool) (law : ShapesFit K V E eq) (such : Taken V E → Type 0) (rules : Rules) (start : A → Start K V) where
-  pub suits_on : (old new : Stage A K V E) → CameOnWith eq such (called rules start) old new → Suits eq start old → Suits eq start new
+module _ {A K V E : Type 0} (f : Facts K V) (law : ShapesFit K V E f.eq) (such : Taken V E → Type 0) (rules : Rules) (start : A → Start K V) where
+  pub suits_on : (old new : Stage A K V E) → CameOnWith f such (called rules start) old new → Suits f.eq start old → Suits f.eq start new
   suits_on (stage.Fresh begin) (stage.Fresh kept) came suits = subst (λ b. asks_nobody (start b) ≡ true) (sym came) suits
   suits_on (stage.Fresh begin) (stage.Running flow) came suits =
-      (begin, fits_on eq such flow.call (start begin) (fresh_call 1 rules (start begin)) (call_of flow) (law 1 rules (start begin) flow.call suits) came)
+      (begin, fits_on f such flow.call (start begin) (fresh_call 1 rules (start begin)) (call_of flow) (law 1 rules (start begin) flow.call suits) came)
   suits_on (stage.Running old) (stage.Running new) came suits =
-      (suits.0, subst (λ n. Fits eq n (start suits.0) (call_of new)) (sym came.0) (fits_on eq such old.call (start suits.0) (call_of old) (call_of new) suits.1 came.1))
+      (suits.0, subst (λ n. Fits f.eq n (start suits.0) (call_of new)) (sym came.0) (fits_on f such old.call (start suits.0) (call_of old) (call_of new) suits.1 came.1))
   suits_on stage.Spent stage.Spent came suits = tt
   suits_on (stage.Fresh begin) stage.Spent came suits = tt
   suits_on (stage.Fresh begin) stage.Answered came suits = tt
@@ -76,10 +77,10 @@ module _ {A K V E : Type 0} (eq : K → K → Bool) (law : ShapesFit K V E eq) (
   suits_on stage.Answered stage.Spent came suits = tt
   suits_on stage.Answered stage.Answered came suits = tt
 
-  pub suits_answer : (old : Stage A K V E) (answer : Answer K V E) → AnswersWith eq such (called rules start) old answer → Suits eq start old → IsAnswerOf start answer
+  pub suits_answer : (old : Stage A K V E) (answer : Answer K V E) → AnswersWith f such (called rules start) old answer → Suits f.eq start old → IsAnswerOf start answer
   suits_answer (stage.Fresh begin) answer by suits =
-      (begin, fits_end eq such by.0 (start begin) (fresh_call 1 rules (start begin)) answer (law 1 rules (start begin) by.0 suits) by.1)
-  suits_answer (stage.Running old) answer by suits = (suits.0, fits_end eq such old.call (start suits.0) (call_of old) answer suits.1 by)
+      (begin, fits_end f such by.0 (start begin) (fresh_call 1 rules (start begin)) answer (law 1 rules (start begin) by.0 suits) by.1)
+  suits_answer (stage.Running old) answer by suits = (suits.0, fits_end f such old.call (start suits.0) (call_of old) answer suits.1 by)
   suits_answer stage.Spent answer by suits = absurd by
   suits_answer stage.Answered answer by suits = absurd by
 
@@ -96,32 +97,40 @@ module _ {V E : Type 0} where
   accords_told told so (Answered t) h = h
   accords_told told so (Tested value replaced) h = tt
 
-module _ {A K V E : Type 0} (eq : K → K → Bool) (such other : Taken V E → Type 0) (weaker : (taken : Taken V E) → such taken → other taken) (begins : A → Call K V E) where
+module _ {A K V E : Type 0} (f : Facts K V) (such other : Taken V E → Type 0) (weaker : (taken : Taken V E) → such taken → other taken) (begins : A → Call K V E) where
   -- an answer of which less is said
-  pub answers_weaker : (old : Stage A K V E) (answer : Answer K V E) → AnswersWith eq such begins old answer → AnswersWith eq other begins old answer
-  answers_weaker (stage.Fresh begin) answer by = (by.0, ended_weaker eq such other weaker by.0 (begins begin) (answers answer) by.1)
-  answers_weaker (stage.Running old) answer by = ended_weaker eq such other weaker old.call (call_of old) (answers answer) by
+  pub answers_weaker : (old : Stage A K V E) (answer : Answer K V E) → AnswersWith f such begins old answer → AnswersWith f other begins old answer
+  answers_weaker (stage.Fresh begin) answer by = (by.0, ended_weaker f such other weaker by.0 (begins begin) (answers answer) by.1)
+  answers_weaker (stage.Running old) answer by = ended_weaker f such other weaker old.call (call_of old) (answers answer) by
   answers_weaker stage.Spent answer by = absurd by
   answers_weaker stage.Answered answer by = absurd by
 
-module _ {A K V E O : Type 0} (eq : K → K → Bool) (such : Taken V E → Type 0) (told other : Told V E → Type 0) (weaker : (t : Told V E) → told t → other t)
-    (taken : (t : Taken V E) → such t → ToldSuch other t) (begins : A → Call K V E) (output : Option K → Answer K V E → Option O) where
-  less : (n : ℕ) (c : Call K V E) (answer : Answer K V E) → EndedWith eq (ToldSuch told) n c (answers answer) → EndedWith eq (ToldSuch other) n c (answers answer)
-  less n c answer end = ended_weaker eq (ToldSuch told) (ToldSuch other) (told_weaker told other weaker) n c (answers answer) end
+-- an answer of a cache with a fact is one of a cache without
+pub answers_plain : {A K V E : Type 0} (f : Facts K V) (such : Taken V E → Type 0) (begins : A → Call K V E) (old : Stage A K V E) (answer : Answer K V E)
+    → AnswersWith f such begins old answer → AnswersWith (plain V f.eq) such begins old answer
+answers_plain f such begins (stage.Fresh begin) answer by = (by.0, ended_plain f such by.0 (begins begin) (answers answer) by.1)
+answers_plain f such begins (stage.Running old) answer by = ended_plain f such old.call (call_of old) (answers answer) by
+answers_plain f such begins stage.Spent answer by = absurd by
+answers_plain f such begins stage.Answered answer by = absurd by
 
-  on : (n : ℕ) (c d : Call K V E) (answer : Answer K V E) → CameWith eq such n c d → EndedWith eq (ToldSuch other) n d (answers answer) → EndedWith eq (ToldSuch other) n c (answers answer)
-  on n c d answer came end = ended_on eq (ToldSuch other) n c d (answers answer) (came_weaker eq such (ToldSuch other) taken n c d came) end
+module _ {A K V E O : Type 0} (f : Facts K V) (such : Taken V E → Type 0) (told other : Told V E → Type 0) (weaker : (t : Told V E) → told t → other t)
+    (taken : (t : Taken V E) → such t → ToldSuch other t) (begins : A → Call K V E) (output : Option K → Answer K V E → Option O) where
+  less : (n : ℕ) (c : Call K V E) (answer : Answer K V E) → EndedWith (plain V f.eq) (ToldSuch told) n c (answers answer) → EndedWith (plain V f.eq) (ToldSuch other) n c (answers answer)
+  less n c answer end = ended_weaker (plain V f.eq) (ToldSuch told) (ToldSuch other) (told_weaker told other weaker) n c (answers answer) end
+
+  on : (n : ℕ) (c d : Call K V E) (answer : Answer K V E) → CameWith f such n c d → EndedWith (plain V f.eq) (ToldSuch other) n d (answers answer) → EndedWith (plain V f.eq) (ToldSuch other) n c (answers answer)
+  on n c d answer came end = ended_on (plain V f.eq) (ToldSuch other) n c d (answers answer) (came_plain f (ToldSuch other) n c d (came_weaker f such (ToldSuch other) taken n c d came)) end
 
   -- A state still tells of each answer that its call may come to. By then who is asked may give less.
-  pub tells_on : (old new : Stage A K V E) → CameOnWith eq such begins old new → Tells eq other begins output old → Tells eq told begins output new
+  pub tells_on : (old new : Stage A K V E) → CameOnWith f such begins old new → Tells f.eq other begins output old → Tells f.eq told begins output new
   tells_on (stage.Fresh begin) (stage.Fresh kept) came tells named answer by =
-      tells named answer (by.0, less by.0 (begins begin) answer (subst (λ b. EndedWith eq (ToldSuch told) by.0 (begins b) (answers answer)) came by.1))
+      tells named answer (by.0, less by.0 (begins begin) answer (subst (λ b. EndedWith (plain V f.eq) (ToldSuch told) by.0 (begins b) (answers answer)) came by.1))
   tells_on (stage.Fresh begin) (stage.Running flow) came tells named answer by =
       tells named answer (flow.call, on flow.call (begins begin) (call_of flow) answer came (less flow.call (call_of flow) answer by))
   tells_on (stage.Running old) (stage.Running new) came tells named answer by =
       tells named answer
       (on old.call (call_of old) (call_of new) answer came.1
-      (less old.call (call_of new) answer (subst (λ n. EndedWith eq (ToldSuch told) n (call_of new) (answers answer)) came.0 by)))
+      (less old.call (call_of new) answer (subst (λ n. EndedWith (plain V f.eq) (ToldSuch told) n (call_of new) (answers answer)) came.0 by)))
   tells_on (stage.Running old) (stage.Fresh kept) came tells named answer by = absurd came
   tells_on stage.Spent (stage.Fresh kept) came tells named answer by = absurd came
   tells_on stage.Spent (stage.Running new) came tells named answer by = absurd came
@@ -133,7 +142,7 @@ module _ {A K V E O : Type 0} (eq : K → K → Bool) (such : Taken V E → Type
 -- one that has answered has nothing to tell
 pub tells_over : {A K V E O : Type 0} (eq : K → K → Bool) (such : Told V E → Type 0) (begins : A → Call K V E) (output : Option K → Answer K V E → Option O) (new : Stage A K V E) → new ≡ stage.Answered
     → Tells eq such begins output new
-tells_over eq such begins output new over named answer by = absurd (subst (λ s. AnswersWith eq (ToldSuch such) begins s answer) over by)
+tells_over {A} {K} {V} eq such begins output new over named answer by = absurd (subst (λ s. AnswersWith (plain V eq) (ToldSuch such) begins s answer) over by)
 
 -- what stores a value where there is none answers an entry
 pub or_inserts : {A K V E : Type 0} (key : A → K) (value : A → V) (named : Option K) (given : Answer K V E) → IsAnswerOf (λ begin. begins.OrInsert (key begin) (value begin)) given
@@ -147,7 +156,7 @@ pub or_inserts_tell : {A K V E : Type 0} (eq : K → K → Bool) (law : ShapesFi
 or_inserts_tell {A} {K} {V} {E} eq law rules key value made begin is named given by =
     let start : A → Start K V = λ it. begins.OrInsert (key it) (value it) in
     let such : Taken V E → Type 0 = ToldSuch NoAnswer in
-    or_inserts key value named given (suits_answer eq law such rules start (stage.Fresh begin) given (subst (λ s. AnswersWith eq such (called rules start) s given) is by) refl)
+    or_inserts key value named given (suits_answer (plain V eq) law such rules start (stage.Fresh begin) given (subst (λ s. AnswersWith (plain V eq) such (called rules start) s given) is by) refl)
 
 -- what an answer leaves
 pub when_ok : {A F : Type 0} (P : Type 0) (r : Result A F) (a : A) → r ≡ Ok a → OnOk r P → P

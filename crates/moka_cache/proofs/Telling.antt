@@ -23,6 +23,7 @@ use Rattle.moka_hist.specs.declared.visits.Visit.{Visit}
 use Rattle.moka_hist.specs.declared.visits.Visit.TheVariants as visit
 use Rattle.moka_shapes.specs.Computes.{ComputesTell, Follows, other_goes, taken}
 use Rattle.moka_laws.specs.Starts.{computed_key, is_alone}
+use Rattle.moka_kept.specs.Facts.{Facts, plain}
 use Rattle.moka_kept.specs.Paths.{EndedWith, LeadsWith}
 use Rattle.moka_kept.specs.Taking.{Answered, Taken, TookBy, TookSuch}
 use Rattle.moka_cache.specs.Asked.{TellsDone, TellsPut, ToldSuch}
@@ -61,18 +62,18 @@ module _ {K V E : Type 0} (such : Taken V E → Type 0) where
   such_found w (visit.TakeTold n) t is took = took
   such_found w _ t is took = absurd (false≢true (ap is_told is))
 
-  module _ (eq : K → K → Bool) (n : ℕ) where
-    is_such : (a : Access K V E) (w after : World K V E) (given : Got K V E) (t : Told V E) → Gets eq n w a given after → TookBy a given such → given ≡ taken t → such (Answered t)
-    is_such a w after given t gets took is = now a (subst (λ (g : Got K V E). Gets eq n w a g after) is gets) (subst (λ (g : Got K V E). TookBy a g such) is took) where
-      now : (a : Access K V E) → Gets eq n w a (taken t) after → TookBy a (taken t) such → such (Answered t)
+  module _ (f : Facts K V) (n : ℕ) where
+    is_such : (a : Access K V E) (w after : World K V E) (given : Got K V E) (t : Told V E) → Gets f.eq n w a given after → TookBy a given such → given ≡ taken t → such (Answered t)
+    is_such a w after given t gets took is = now a (subst (λ (g : Got K V E). Gets f.eq n w a g after) is gets) (subst (λ (g : Got K V E). TookBy a g such) is took) where
+      now : (a : Access K V E) → Gets f.eq n w a (taken t) after → TookBy a (taken t) such → such (Answered t)
       now (On_table operation) gets took = absurd gets
       now (On_desk made) gets took = such_found w.desk made t (sym gets.0) took
 
-    such_on : (c : Call K V E) (path : List (Access K V E × Got K V E)) (d : Call K V E) → LeadsWith eq such n c path d → (t : Told V E) → Contains (what_gave path) (taken t) → such (Answered t)
+    such_on : (c : Call K V E) (path : List (Access K V E × Got K V E)) (d : Call K V E) → LeadsWith f such n c path d → (t : Told V E) → Contains (what_gave path) (taken t) → such (Answered t)
     such_on c [] d led t there = absurd (contains_none (taken t) there)
     such_on c (made ∷ more) d led t there =
         either (Contains (made.1 ∷ []) (taken t)) (Contains (what_gave more) (taken t)) (such (Answered t))
-        (λ first. is_such made.0 led.2.world led.2.after made.1 t (subst (λ (a : Access K V E). Gets eq n led.2.world a made.1 led.2.after) (sym led.1) led.2.gets) led.4 (contains_one made.1 (taken t) first))
+        (λ first. is_such made.0 led.2.gave.world led.2.gave.after made.1 t (subst (λ (a : Access K V E). Gets f.eq n led.2.gave.world a made.1 led.2.gave.after) (sym led.1) led.2.gave.gets) led.4 (contains_one made.1 (taken t) first))
         (λ later. such_on led.0 more d led.5 t later)
         (Contains-append_cases (made.1 ∷ []) (what_gave more) (taken t) there)
 
@@ -82,26 +83,26 @@ abbrev AnswersSuch : {K V E : Type 0} → (Told V E → Type 0) → Start K V �
 AnswersSuch {K} {V} {E} such begin key said =
     ((t : Told V E) × such t × Follows key t said) ⊎ ((is_alone begin ≡ true) × ((pair : Option (K × V)) × (said ≡ unchanged key pair)))
 
-module _ {K V E : Type 0} (eq : K → K → Bool) (such : Taken V E → Type 0) (n : ℕ) (c : Call K V E) (next : Next K V E) where
+module _ {K V E : Type 0} (f : Facts K V) (such : Taken V E → Type 0) (n : ℕ) (c : Call K V E) (next : Next K V E) where
   -- what is told on a way to an answer is such
-  pub such_told : (end : EndedWith eq such n c next) (t : Told V E) → Contains (what_gave end.came.0 ++ end.given ∷ []) (taken t) → such (Answered t)
+  pub such_told : (end : EndedWith f such n c next) (t : Told V E) → Contains (what_gave end.came.0 ++ end.given ∷ []) (taken t) → such (Answered t)
   such_told end t there =
       let path : List (Got K V E) = what_gave end.came.0 in
       either (Contains path (taken t)) (Contains (end.given ∷ []) (taken t)) (such (Answered t))
-      (λ before. such_on such eq n c end.came.0 end.call end.came.1 t before)
-      (λ last. is_such such eq n (access_of n end.call) end.last.world end.last.after end.given t end.last.gets end.took (contains_one end.given (taken t) last))
+      (λ before. such_on such f n c end.came.0 end.call end.came.1 t before)
+      (λ last. is_such such f n (access_of n end.call) end.last.gave.world end.last.gave.after end.given t end.last.gave.gets end.took (contains_one end.given (taken t) last))
       (Contains-append_cases path (end.given ∷ []) (taken t) there)
 
-module _ {K V E : Type 0} (eq : K → K → Bool) (law : ComputesTell K V E eq) (such : Taken V E → Type 0) (rules : Rules) (begin : Start K V) (key : K)
+module _ {K V E : Type 0} (f : Facts K V) (law : ComputesTell K V E f.eq) (such : Taken V E → Type 0) (rules : Rules) (begin : Start K V) (key : K)
     (computes : computed_key begin ≡ Some key) (n : ℕ) (said : Answer K V E) where
-  answers_such : EndedWith eq such n (fresh_call 1 rules begin) (answers said) → AnswersSuch (λ t. such (Answered t)) begin key said
+  answers_such : EndedWith f such n (fresh_call 1 rules begin) (answers said) → AnswersSuch (λ t. such (Answered t)) begin key said
   answers_such end =
       let path : List (Got K V E) = what_gave end.came.0 in
       either ((t : Told V E) × Contains (path ++ end.given ∷ []) (taken t) × Follows key t said)
       ((is_alone begin ≡ true) × Contains (path ++ end.given ∷ []) other_goes × ((pair : Option (K × V)) × (said ≡ unchanged key pair)))
-      (AnswersSuch (λ t. such (Answered t)) begin key said) (λ by. inl (by.0, such_told eq such n (fresh_call 1 rules begin) (answers said) end by.0 by.1, by.2)) (λ alone. inr (alone.0, alone.2))
-      (law 1 rules begin key n path end.call end.given said computes (may_lead eq such n (fresh_call 1 rules begin) end.came.0 end.call end.came.1)
-      (may_give eq n end.call end.given end.last) (sym (ap (λ (x : Next K V E). x.turn) end.follows)))
+      (AnswersSuch (λ t. such (Answered t)) begin key said) (λ by. inl (by.0, such_told f such n (fresh_call 1 rules begin) (answers said) end by.0 by.1, by.2)) (λ alone. inr (alone.0, alone.2))
+      (law 1 rules begin key n path end.call end.given said computes (may_lead f such n (fresh_call 1 rules begin) end.came.0 end.call end.came.1)
+      (may_give f.eq n end.call end.given end.last.gave) (sym (ap (λ (x : Next K V E). x.turn) end.follows)))
 
 -- ---- what is stated of each answer
 
@@ -181,8 +182,8 @@ module _ {A K V E O : Type 0} (eq : K → K → Bool) (law : ComputesTell K V E 
     (states : (begin : A) (named : Option K) (said : Answer K V E) → AnswersSuch such (start begin) (key begin) said → IsSome (output named said)) where
   tells_such : (made : Stage A K V E) (begin : A) → made ≡ stage.Fresh begin → Tells eq such (called rules start) output made
   tells_such made begin is named said by =
-      let ended : AnswersWith eq (ToldSuch such) (called rules start) (stage.Fresh begin) said = subst (λ s. AnswersWith eq (ToldSuch such) (called rules start) s said) is by in
-      states begin named said (answers_such eq law (ToldSuch such) rules (start begin) (key begin) (computes begin) ended.0 said ended.1)
+      let ended : AnswersWith (plain V eq) (ToldSuch such) (called rules start) (stage.Fresh begin) said = subst (λ s. AnswersWith (plain V eq) (ToldSuch such) (called rules start) s said) is by in
+      states begin named said (answers_such (plain V eq) law (ToldSuch such) rules (start begin) (key begin) (computes begin) ended.0 said ended.1)
 
 -- one that goes with others was told something
 was_told : {K V E P : Type 0} (begin : Start K V) (under : K) (said : Answer K V E) (tells : Told V E → Type 0) → is_alone begin ≡ false → ((t : Told V E) → tells t → Follows under t said → P)

@@ -1,5 +1,5 @@
 -- What a call takes of who is asked. A call takes no answer of a form that its relation has no row for.
-use Rattle.std.specs.Prelude.{◌≡◌, Bool, false, List, [], ◌∷◌, Option, Some, None, Result, Ok, Err}
+use Rattle.std.specs.Prelude.{◌≡◌, Bool, false, List, [], ◌∷◌, Option, Some, None, IfSome, Result, Ok, Err}
 use Rattle.moka_hist.specs.declared.entries.Entry.{Entry}
 use Rattle.moka_hist.specs.declared.events.Op.{Op}
 use Rattle.moka_hist.specs.declared.events.Op.TheVariants as op
@@ -63,6 +63,10 @@ entry_of None = None
 entry_of (Some pair) =
     Some (record { key = Some pair.0; value = pair.1; fresh = false; replaced = false })
 
+-- what a look found, if it found something, is so
+abbrev pub FoundSo : {K V : Type 0} → (K → V → Type 0) → Option (Entry K V) → Type 0
+FoundSo holds found = IfSome found (λ entry. IfSome entry.key (λ key. holds key entry.value))
+
 module _ {K V Q : Type 0} where
   -- who is asked was begun where a compute asks, with what its look found, and else is as it was
   abbrev pub BegunFor : (Q → Option (Entry K V) → Q → Type 0) → OwnAsk K V → Q → Q → Type 0
@@ -100,6 +104,12 @@ module _ {F V : Type 0} (calls : F → V → Bool → F → Type 0) where
   CallsTo first [] last = last ≡ first
   CallsTo first (made ∷ more) last =
       (mid : F) × calls first made.0 made.1 mid × CallsTo mid more last
+
+  -- it may be called, after some calls of it or none, on each value that is so of some key
+  abbrev pub CanTest : {K : Type 0} → (K → V → Type 0) → (F → V → Type 0) → F → Type 0
+  CanTest {K} holds takes first =
+      (made : List (V × Bool)) (state : F) (key : K) (value : V)
+      → CallsTo first made state → holds key value → takes state value
 
   -- the test may answer so on the value, after some calls of it or none
   pub record MayAnswer (first : F) (value : V) (replaced : Bool) : Type 0 where

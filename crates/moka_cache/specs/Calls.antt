@@ -9,13 +9,14 @@ use Rattle.moka_cache.specs.declared.calling.Calling.{Calling}
 use Rattle.moka_cache.specs.declared.calling.Calling.TheVariants as calling
 
 module _ {F G : Type 0} where
-  -- The closure may be called, whatever was found, and the future that it gives may be polled.
+  -- The closure may be called with what was found, and the future that it gives may be polled.
   abbrev pub CanCall : {K V : Type 0} → (F → Option (Bor (Entry K V)) → Type 0)
-      → (F → Option (Bor (Entry K V)) → G → Type 0) → (G → Type 0) → Calling F G → Type 0
-  CanCall {K} {V} pre post can_poll (calling.Uncalled f) =
-      (found : Option (Bor (Entry K V)))
-      → pre f found × ((future : G) → post f found future → can_poll future)
-  CanCall pre post can_poll _ = ⊥
+      → (F → Option (Bor (Entry K V)) → G → Type 0) → (G → Type 0) → Calling F G
+      → Option (Entry K V) → Type 0
+  CanCall {K} {V} pre post can_poll (calling.Uncalled f) found =
+      (lent : Option (Bor (Entry K V))) → option_copied lent ≡ found
+      → pre f lent × ((future : G) → post f lent future → can_poll future)
+  CanCall pre post can_poll _ found = ⊥
 
   -- the closure was called, and its future may be polled
   abbrev pub CanGoOn : (G → Type 0) → Calling F G → Type 0

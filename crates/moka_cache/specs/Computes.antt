@@ -1,19 +1,23 @@
 -- How far who tells a compute what is to be done is.
-use Rattle.std.specs.Prelude.{◌≡◌, Result}
+use Rattle.std.specs.Prelude.{◌≡◌, Option, Result}
+use Rattle.moka_hist.specs.declared.entries.Entry.{Entry}
 use Rattle.moka_hist.specs.declared.events.Op.{Op}
 use Rattle.moka_hist.specs.declared.events.Told.{Told}
-use Rattle.moka_cache.specs.Asked.{IsPut, TellsDone, TellsPut}
+use Rattle.moka_cache.specs.Asked.{FoundSo, IsPut, TellsDone, TellsPut}
 use Rattle.moka_cache.specs.declared.by_compute.ByCompute.{ByCompute}
 use Rattle.moka_cache.specs.declared.by_compute.ByUpsert.{ByUpsert}
 use Rattle.moka_cache.specs.declared.by_compute.ComputeStage.{ComputeStage}
 use Rattle.moka_cache.specs.declared.by_compute.ComputeStage.TheVariants as stage
 
 module _ {C : Type 0} where
-  -- it may be started where it is fresh, and polled where it was started
-  abbrev pub CanGo : (C → Type 0) → (C → Type 0) → ComputeStage C → Type 0
-  CanGo can_start can_poll (stage.Fresh compute) = can_start compute
-  CanGo can_start can_poll (stage.Started compute) = can_poll compute
-  CanGo can_start can_poll stage.Over = Unit {0}
+  -- it may be started with whatever is found that is so, where it is fresh, and polled where it was
+  -- started
+  abbrev pub CanGo : {K V : Type 0} → (K → V → Type 0) → (C → Option (Entry K V) → Type 0)
+      → (C → Type 0) → ComputeStage C → Type 0
+  CanGo {K} {V} holds can_start can_poll (stage.Fresh compute) =
+      (found : Option (Entry K V)) → FoundSo holds found → can_start compute found
+  CanGo holds can_start can_poll (stage.Started compute) = can_poll compute
+  CanGo holds can_start can_poll stage.Over = Unit {0}
 
   -- it may give this, now or once it was started; what is over gives nothing
   abbrev pub MayGive : {O : Type 0} → (C → O → Type 0) → ComputeStage C → O → Type 0
@@ -49,8 +53,8 @@ module _ {C V E : Type 0} where
   GivesPut gives asked told = TellsPut (MayGive gives asked.stage) told
 
   -- it may go on, and gives nothing but puts
-  abbrev pub CanPut : (C → Type 0) → (C → Type 0) → (C → Result (Op V) E → Type 0) → ByUpsert C
-      → Type 0
-  CanPut can_start can_poll gives asked =
-      CanGo can_start can_poll asked.stage
+  abbrev pub CanPut : {K : Type 0} → (K → V → Type 0) → (C → Option (Entry K V) → Type 0)
+      → (C → Type 0) → (C → Result (Op V) E → Type 0) → ByUpsert C → Type 0
+  CanPut holds can_start can_poll gives asked =
+      CanGo holds can_start can_poll asked.stage
       × ((r : Result (Op V) E) → MayGive gives asked.stage r → IsPut r)

@@ -10,6 +10,8 @@ pub mod Entries
 pub mod Hearing
 pub mod Polls
 pub mod Stages
+pub mod Polled
 pub mod Starts
 pub mod Stays
 pub mod Suits
+pub mod Meets

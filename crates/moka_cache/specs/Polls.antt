@@ -7,6 +7,7 @@ use Rattle.moka_hist.specs.declared.replies.Ask.TheVariants as ask
 use Rattle.moka_init.specs.FlowPlan.{IsOver, call_of, tested_in}
 use Rattle.moka_init.specs.Grounds.{access_at}
 use Rattle.moka_init.specs.declared.flow.Flow.{Flow}
+use Rattle.moka_kept.specs.Facts.{Facts}
 use Rattle.moka_kept.specs.Stops.{AnswersFrom, CameTo, LeftAsking, Waits}
 use Rattle.moka_kept.specs.Taking.{Taken, is_taking}
 use Rattle.moka_cache.specs.Hearing.{StandsAtOne}
@@ -16,17 +17,17 @@ use Rattle.moka_cache.specs.declared.errors.PollError.TheVariants as error
 module _ {K V E : Type 0} where
   -- The poll's answer follows from the last of the accesses that the call made since, and nothing is
   -- left of that; or the call came to where its flow stands.
-  abbrev pub PollIs : (K → K → Bool) → (Taken V E → Type 0) → Flow K V E
+  abbrev pub PollIs : Facts K V → (Taken V E → Type 0) → Flow K V E
       → Poll (Result (Answer K V E) PollError) → Flow K V E → Type 0
-  PollIs eq such old (Ready (Ok answer)) new = AnswersFrom eq such old answer × IsOver new
-  PollIs eq such old (Ready (Err e)) new = (e ≡ error.Memory) × CameTo eq such old new
-  PollIs eq such old Pending new = CameTo eq such old new
+  PollIs f such old (Ready (Ok answer)) new = AnswersFrom f such old answer × IsOver new
+  PollIs f such old (Ready (Err e)) new = (e ≡ error.Memory) × CameTo f such old new
+  PollIs f such old Pending new = CameTo f such old new
 
   -- the same of one turn of a poll, after which the call may go on
-  abbrev pub TurnIs : (K → K → Bool) → (Taken V E → Type 0) → Flow K V E
+  abbrev pub TurnIs : Facts K V → (Taken V E → Type 0) → Flow K V E
       → Option (Poll (Result (Answer K V E) PollError)) → Flow K V E → Type 0
-  TurnIs eq such old None new = CameTo eq such old new
-  TurnIs eq such old (Some poll) new = PollIs eq such old poll new
+  TurnIs f such old None new = CameTo f such old new
+  TurnIs f such old (Some poll) new = PollIs f such old poll new
 
   -- Why a poll is pending: the last access left its call waiting; or its own ask is open, and who
   -- is asked answered Pending, and is as that poll left it; or it stands at a notice, its own, that
@@ -48,5 +49,5 @@ module _ {K V E : Type 0} where
       ⊎ ((found : Option (K × V)) × LeftAsking eq flow (ask.Compute found)))
 
   -- the call came there from where the flow stands
-  abbrev pub CameToAsk : (K → K → Bool) → (Taken V E → Type 0) → Flow K V E → Type 0
-  CameToAsk eq such old = (flow : Flow K V E) × CameTo eq such old flow × IsToAsk eq flow
+  abbrev pub CameToAsk : Facts K V → (Taken V E → Type 0) → Flow K V E → Type 0
+  CameToAsk f such old = (flow : Flow K V E) × CameTo f such old flow × IsToAsk f.eq flow

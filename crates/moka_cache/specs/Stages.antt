@@ -1,10 +1,14 @@
 -- What a poll of a state does, by how far the state is.
 use Rattle.std.specs.Prelude.{◌≡◌, ℕ, Bool, Option, Some, None}
 use Rattle.moka_hist.specs.Next.{answers}
+use Rattle.moka_hist.specs.Plan.{held_by}
 use Rattle.moka_hist.specs.State.{Call}
 use Rattle.moka_hist.specs.declared.replies.Answer.{Answer}
 use Rattle.moka_hist.specs.declared.replies.Answer.TheVariants as answer
+use Rattle.moka_hist.specs.declared.writes.Write.{Write}
 use Rattle.moka_init.specs.FlowPlan.{IsOver, call_of}
+use Rattle.moka_kept.specs.Facts.{Facts}
+use Rattle.moka_kept.specs.Meets.{FlowMeets}
 use Rattle.moka_kept.specs.Paths.{CameWith, EndedWith}
 use Rattle.moka_kept.specs.Rests.{Rests}
 use Rattle.moka_kept.specs.Taking.{Taken}
@@ -47,6 +51,11 @@ module _ {A K V E : Type 0} where
   number_in (stage.Running flow) = Some flow.call
   number_in _ = None
 
+  -- the write that its call holds there, if that holds one
+  abbrev pub held_in : Stage A K V E → Option (Option Write)
+  held_in (stage.Running flow) = Some (held_by (call_of flow).plan)
+  held_in _ = None
+
   -- it has no number yet, and what it begins with is so; a state with a number is not such
   abbrev pub BeginsWith : Stage A K V E → (A → Type 0) → Type 0
   BeginsWith (stage.Fresh begin) holds = holds begin
@@ -66,26 +75,26 @@ module _ {A K V E : Type 0} where
   -- A poll that answers nothing brought the state so far, whose call is to begin with this start:
   -- it took no number yet, or none was left; or its call came by accesses to where it is, from
   -- where it was or from its fresh flow. Each answer of who is asked that it took is such.
-  abbrev pub CameOnWith : (K → K → Bool) → (Taken V E → Type 0) → (A → Call K V E) → Stage A K V E
+  abbrev pub CameOnWith : Facts K V → (Taken V E → Type 0) → (A → Call K V E) → Stage A K V E
       → Stage A K V E → Type 0
-  CameOnWith eq such begins (stage.Fresh begin) (stage.Fresh kept) = kept ≡ begin
-  CameOnWith eq such begins (stage.Fresh begin) stage.Spent = Unit {0}
-  CameOnWith eq such begins stage.Spent stage.Spent = Unit {0}
-  CameOnWith eq such begins (stage.Fresh begin) (stage.Running new) =
-      CameWith eq such new.call (begins begin) (call_of new)
-  CameOnWith eq such begins (stage.Running old) (stage.Running new) =
-      (new.call ≡ old.call) × CameWith eq such old.call (call_of old) (call_of new)
-  CameOnWith eq such begins _ _ = ⊥
+  CameOnWith f such begins (stage.Fresh begin) (stage.Fresh kept) = kept ≡ begin
+  CameOnWith f such begins (stage.Fresh begin) stage.Spent = Unit {0}
+  CameOnWith f such begins stage.Spent stage.Spent = Unit {0}
+  CameOnWith f such begins (stage.Fresh begin) (stage.Running new) =
+      CameWith f such new.call (begins begin) (call_of new)
+  CameOnWith f such begins (stage.Running old) (stage.Running new) =
+      (new.call ≡ old.call) × CameWith f such old.call (call_of old) (call_of new)
+  CameOnWith f such begins _ _ = ⊥
 
   -- the poll's answer follows from the last of its accesses
-  abbrev pub AnswersWith : (K → K → Bool) → (Taken V E → Type 0) → (A → Call K V E) → Stage A K V E
+  abbrev pub AnswersWith : Facts K V → (Taken V E → Type 0) → (A → Call K V E) → Stage A K V E
       → Answer K V E → Type 0
-  AnswersWith eq such begins (stage.Fresh begin) answer =
-      (n : ℕ) × EndedWith eq such n (begins begin) (answers answer)
-  AnswersWith eq such begins (stage.Running old) answer =
-      EndedWith eq such old.call (call_of old) (answers answer)
-  AnswersWith eq such begins stage.Spent answer = ⊥
-  AnswersWith eq such begins stage.Answered answer = ⊥
+  AnswersWith f such begins (stage.Fresh begin) answer =
+      (n : ℕ) × EndedWith f such n (begins begin) (answers answer)
+  AnswersWith f such begins (stage.Running old) answer =
+      EndedWith f such old.call (call_of old) (answers answer)
+  AnswersWith f such begins stage.Spent answer = ⊥
+  AnswersWith f such begins stage.Answered answer = ⊥
 
   -- why a poll of the state is pending: only one whose call has a number can be
   abbrev pub StagePends : {Q : Type 0} → (K → K → Bool) → (Q → Q → Type 0) → (ℕ → Type 0) → Q
@@ -95,18 +104,11 @@ module _ {A K V E : Type 0} where
 
   -- the state's call came, from where it was, to where who is asked is to be asked; it
   -- has a number then
-  abbrev pub StageAsks : (K → K → Bool) → (Taken V E → Type 0) → Stage A K V E → Type 0
-  StageAsks eq such (stage.Running flow) = CameToAsk eq such flow
-  StageAsks eq such _ = ⊥
+  abbrev pub StageAsks : Facts K V → (Taken V E → Type 0) → Stage A K V E → Type 0
+  StageAsks f such (stage.Running flow) = CameToAsk f such flow
+  StageAsks f such _ = ⊥
 
-  -- A state is begun: its call is as its start says, and rests; no number was left for it; or its
-  -- key was not copied. One that was begun before is as it was.
-  abbrev pub Begins : (K → K → Bool) → (A → Call K V E) → Stage A K V E → Stage A K V E → Type 0
-  Begins eq begins (stage.Fresh begin) (stage.Running flow) =
-      (call_of flow ≡ begins begin) × Rests flow
-  Begins eq begins (stage.Fresh begin) (stage.Fresh kept) = kept ≡ begin
-  Begins eq begins (stage.Fresh begin) stage.Spent = Unit {0}
-  Begins eq begins (stage.Fresh begin) stage.Answered = ⊥
-  Begins eq begins (stage.Running flow) new = new ≡ stage.Running flow
-  Begins eq begins stage.Spent new = new ≡ stage.Spent
-  Begins eq begins stage.Answered new = new ≡ stage.Answered
+  -- what the state's call stores and tells from here on is so, where it has a number
+  abbrev pub RunsSo : Facts K V → Option K → (Taken V E → Type 0) → Stage A K V E → Type 0
+  RunsSo f own such (stage.Running flow) = FlowMeets f own such flow
+  RunsSo f own such _ = Unit {0}

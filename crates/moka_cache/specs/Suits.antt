@@ -9,6 +9,7 @@ use Rattle.moka_hist.specs.declared.rules.Rules.{Rules}
 use Rattle.moka_laws.specs.Starts.{asks_nobody, may_answer}
 use Rattle.moka_laws.specs.Shapes.{Fits}
 use Rattle.moka_cache.specs.Asked.{ToldSuch}
+use Rattle.moka_kept.specs.Facts.{facts, plain}
 use Rattle.moka_kept.specs.Taking.{Taken}
 use Rattle.moka_cache.specs.Stages.{AnswersWith, name_in}
 use Rattle.moka_cache.specs.Starts.{called}
@@ -34,16 +35,17 @@ module _ {A K V E : Type 0} where
 abbrev pub Tells : {A K V E O : Type 0} → (K → K → Bool) → (Told V E → Type 0)
     → (A → Call K V E) → (Option K → Answer K V E → Option O) → Stage A K V E → Type 0
 Tells {A} {K} {V} {E} eq such begins output stage =
-    (named : Option K) (answer : Answer K V E) → AnswersWith eq (ToldSuch such) begins stage answer
-    → IsSome (output named answer)
+    (named : Option K) (answer : Answer K V E)
+    → AnswersWith (plain V eq) (ToldSuch such) begins stage answer → IsSome (output named answer)
 
 -- What a state may answer that starts so, in a cache of these rules: an answer of its call follows
--- from accesses by which it took nothing of who is asked but what is such, and is one that its
--- start may have; and the state tells it by the key that it keeps.
-abbrev pub StateAnswers : {A K V E O : Type 0} → (K → K → Bool) → (Taken V E → Type 0) → Rules
-    → (A → Start K V) → (A → Option K) → (Option K → Answer K V E → Option O) → Stage A K V E
-    → Option K → O → Type 0
-StateAnswers {A} {K} {V} {E} eq such rules start names output stage kept told =
-    (answer : Answer K V E) × AnswersWith eq such (called rules start) stage answer
+-- from accesses by which it took nothing of who is asked but what is such, each given by a world that
+-- meets the fact, and is one that its start may have; and the state tells it by the key that it keeps.
+abbrev pub StateAnswers : {A K V E O : Type 0} → (K → K → Bool) → (K → V → Type 0)
+    → (Taken V E → Type 0) → Rules → (A → Start K V) → (A → Option K)
+    → (Option K → Answer K V E → Option O) → Stage A K V E → Option K → O → Type 0
+StateAnswers {A} {K} {V} {E} eq holds such rules start names output stage kept told =
+    (answer : Answer K V E)
+    × AnswersWith (facts eq holds) such (called rules start) stage answer
     × (Suits eq start stage → IsAnswerOf start answer)
     × (Some told ≡ output (name_in names stage kept) answer)

@@ -8,17 +8,19 @@ ghost use Rattle.moka_hist.specs.declared.entries.Entry.{Entry};
 ghost use Rattle.moka_hist.specs.declared.events.Told.{Told};
 ghost use Rattle.moka_init.specs.Grounds.{access_at};
 ghost use Rattle.moka_kept.specs.Taking.{NoAnswer, is_taking};
-ghost use Rattle.moka_cache.specs.Asked.{AsksNothing, Untested};
+ghost use Rattle.moka_cache.specs.Asked.{AsksNothing, FoundSo, Untested};
 
 use futures::task::{Context, Poll};
+use moka_facts::Fact;
 use moka_hist::{Entry, Told};
 use moka_kept::{Live, is_asking};
 use moka_values::Exact;
 
 /// What answers the own ask of a call, and its replace test: an initializer or a compute. It is
 /// called without the lock: begun where the ask of a compute opens, polled as long as the ask is
-/// open, and asked its test right before the visit that judges by it.
-pub trait Asked<K, V, E>: Drop {
+/// open, and asked its test right before the visit that judges by it. `P` is the fact of the cache:
+/// it is begun with what meets that, and asked its test on values that do.
+pub trait Asked<K: Eq, V, E, P: Fact<K, V>>: Drop {
     /// Holds of the states in which it may be polled.
     ghost can_poll: { Self → Type 0 };
 
@@ -44,7 +46,8 @@ pub trait Asked<K, V, E>: Drop {
 
     /// Begins, where the ask of a compute was opened, with what its look found.
     fn begin(&mut self, found: Option<&Entry<K, V>>)
-        requires { can_poll self.old }
+        requires can { can_poll self.old }
+        requires so { FoundSo P.holds (option_copied found) }
         ensures begun { begins self.old (option_copied found.entry) self.new }
         ensures again { can_poll self.new }
         ensures same { (told : Told V E) → gives self.new told → gives self.old told }
@@ -54,7 +57,8 @@ pub trait Asked<K, V, E>: Drop {
     /// Whether the value of a record is to be replaced: asks its replace test. It is asked without
     /// the lock, right before the visit that judges the record. Without a test the answer is false.
     fn replaces(&mut self, value: &V) -> bool
-        requires { can_poll self.old }
+        requires can { can_poll self.old }
+        requires so { (key : K) × P.holds key value.now }
         // What it answers, by one ask, and that it may give no other answer afterwards.
         ensures answers { tests self.old value.now result }
         ensures once { asks self.old value.now result self.new }
@@ -80,7 +84,10 @@ pub trait Asked<K, V, E>: Drop {
 
 /// Whether who is asked is to be polled, or begun: the own ask of the flow is open. Where there is
 /// nobody to be asked the flow isn't looked at.
-pub(crate) fn is_polled<K, V, E, Q: Asked<K, V, E>>(asked: &Q, flow: &Live<K, V, E>) -> bool
+pub(crate) fn is_polled<K: Eq, V, E, Q: Asked<K, V, E, P>, P: Fact<K, V>>(
+    asked: &Q,
+    flow: &Live<K, V, E>,
+) -> bool
     ensures asking { OnTrue result (is_taking (access_at flow.now) ≡ true) }
     // Where it is open and isn't polled, nobody gives an answer.
     ensures unasked { OnFalse result (is_taking (access_at flow.now) ≡ true
@@ -93,7 +100,7 @@ pub(crate) fn is_polled<K, V, E, Q: Asked<K, V, E>>(asked: &Q, flow: &Live<K, V,
 #[derive(Drop)]
 pub struct Nobody;
 
-impl<K, V, E> Asked<K, V, E> for Nobody {
+impl<K: Eq, V, E, P: Fact<K, V>> Asked<K, V, E, P> for Nobody {
     ghost can_poll = { λ nobody. Unit {0} };
 
     ghost gives = { λ nobody. NoAnswer };

@@ -6,8 +6,7 @@ ghost use Rattle.moka_hist.specs.declared.replies.Answer.{Answer};
 use moka_hist::{Answer, Start};
 use moka_values::Exact;
 
-/// What a call is begun by: its start, and the key of the entry that is to be answered, where the
-/// call's own answer has none.
+/// What a call is begun by: its start, and the key that its state is to keep, if it is to keep one.
 #[derive(Drop)]
 pub struct Begun<K, V> {
     pub start: Start<K, V>,
@@ -15,14 +14,14 @@ pub struct Begun<K, V> {
 }
 
 impl<K, V> Begun<K, V> {
-    /// A call of this start, whose answer needs no key.
+    /// A call of this start, whose state needs no key.
     pub(crate) fn unnamed(start: Start<K, V>) -> Self
         ensures { result ≡ record { start = start; named = None } }
     {
         Begun { start, named: None }
     }
 
-    /// A call of this start, whose answer is an entry of this key.
+    /// A call of this start, whose state keeps this key.
     pub(crate) fn named(start: Start<K, V>, key: K) -> Self
         ensures { result ≡ record { start = start; named = Some key } }
     {
@@ -40,7 +39,8 @@ pub trait Begin<K: Exact, V, E>: Drop {
     /// How its call starts.
     ghost start: { Self → Start K V };
 
-    /// The key of the entry that it answers, where the call's own answer has none.
+    /// The key that its state keeps: that of the entry which it answers, where the call's own answer
+    /// has none, and that for which a load tells the calls that wait for it how it ended.
     ghost named: { Self → Option K };
 
     /// What the state answers by that key, where its call answers this. None where its call never

@@ -6,6 +6,7 @@ ghost use Rattle.moka_cache.specs.Errors.{kind_of};
 ghost use Rattle.moka_cache.specs.Settings.{rules_of};
 ghost use Rattle.moka_cache.specs.Stages.{MayPoll};
 ghost use Rattle.moka_cache.specs.Starts.{called};
+ghost use Rattle.moka_cache.specs.Meets.{MeetsFact};
 ghost use Rattle.moka_cache.specs.Suits.{StateAnswers, Tells};
 
 use crate::asked::Asked;
@@ -15,6 +16,7 @@ use crate::errors::PollError;
 use crate::moments::Moments;
 use crate::polled::{Polled, State};
 use futures::executor::block_on;
+use moka_facts::Fact;
 use moka_kept::Listener;
 use moka_values::Exact;
 use std::alloc::AllocGlobal;
@@ -23,15 +25,16 @@ use std::io;
 use std::random::RandomSource;
 use std::sync::Wait;
 
-impl<A, K, V, E, Q, L, S> CacheCall<'_, A, K, V, E, Q, L, S>
+impl<A, K, V, E, Q, L, S, P> CacheCall<'_, A, K, V, E, Q, L, S, P>
 where
     A: Begin<K, V, E>,
-    Q: Asked<K, V, E>,
+    Q: Asked<K, V, E, P>,
     K: Eq + Hash + Exact,
     V: Exact,
     E: Exact,
     L: Listener<K, V>,
     S: BuildHasher + Drop,
+    P: Fact<K, V>,
 {
     /// Polls the call on this thread until it answers, each time at a moment that comes from there;
     /// while the call waits the thread sleeps. It is `futures::executor::block_on` of a `Polled` of
@@ -45,13 +48,17 @@ where
         R: Wait + RandomSource + AllocGlobal,
         M: Moments + Drop,
         requires may { MayPoll self.stage }
+        requires so { MeetsFact K.eq P.holds A.named (Q.gives self.asked) (Q.tests self.asked)
+            (called (rules_of self.cache.now) A.start) self.stage self.named }
         requires asks { Q.can_poll self.asked }
-        requires hears { (l : L) (key : K) (value : V) → L.hears l key value }
+        requires hears { (l : L) (key : K) (value : V) → P.holds key value
+            → L.hears l key value }
         requires tells { Tells K.eq (Q.gives self.asked)
             (called (rules_of self.cache.now) A.start) A.output self.stage }
         // What its call may come to.
         ensures answers { IfOk result
-            (StateAnswers K.eq (Accords (Q.gives self.entry.asked) (Q.tests self.entry.asked))
+            (StateAnswers K.eq P.holds (Accords (Q.gives self.entry.asked)
+            (Q.tests self.entry.asked))
             (rules_of self.entry.cache.now) A.start A.named A.output
             self.entry.stage self.entry.named) }
     {

@@ -5,6 +5,7 @@ ghost use Rattle.std.specs.String.{string_bytes};
 
 use crate::cache::Cache;
 use crate::errors::BuildError;
+use moka_facts::{Anything, Fact};
 use moka_hist::Rules;
 use moka_kept::{Listener, NoListener};
 use moka_room::FixedSeed;
@@ -17,14 +18,14 @@ use std::time::Duration;
 
 /// What a cache is built by. No setter takes memory, and of each the last call counts.
 #[derive(Drop)]
-pub struct CacheBuilder<K, V, E = (), L = NoListener> {
+pub struct CacheBuilder<K, V, E = (), L = NoListener, P = Anything> {
     pub(crate) name: Option<String>,
     pub(crate) max_capacity: Option<u64>,
     pub(crate) initial_capacity: Option<usize>,
     pub(crate) time_to_live: Option<Duration>,
     pub(crate) time_to_idle: Option<Duration>,
     pub(crate) listener: Option<L>,
-    types: PhantomData<(K, V, E)>,
+    types: PhantomData<(K, V, E, P)>,
 }
 
 impl<K, V, E> Default for CacheBuilder<K, V, E> {
@@ -48,7 +49,7 @@ impl<K, V, E> Default for CacheBuilder<K, V, E> {
 }
 
 /// Writes what was set, and of the listener only whether there is one.
-impl<K, V, E, L> fmt::Debug for CacheBuilder<K, V, E, L> {
+impl<K, V, E, L, P> fmt::Debug for CacheBuilder<K, V, E, L, P> {
     fn fmt<W: fmt::Write>(&self, f: &mut fmt::Formatter<W>) -> fmt::Result {
         f.debug_struct("CacheBuilder")
             .field("name", &self.name)
@@ -78,12 +79,13 @@ impl<K, V, E> CacheBuilder<K, V, E> {
     }
 }
 
-impl<K, V, E, L> CacheBuilder<K, V, E, L>
+impl<K, V, E, L, P> CacheBuilder<K, V, E, L, P>
 where
     K: Eq + Hash + Exact,
     V: Exact,
     E: Exact,
     L: Drop,
+    P: Fact<K, V>,
 {
     ghost use Rattle.moka_hist.specs.Settings.{refusal_of};
     ghost use Rattle.moka_cache.specs.Errors.{refused_by};
@@ -140,7 +142,7 @@ where
 
     /// Sets the listener, which hears of each record that a write replaces or a call takes out: a
     /// closure, or a value of a type of one's own. One that was set before is dropped.
-    pub fn eviction_listener<H: Listener<K, V>>(self, listener: H) -> CacheBuilder<K, V, E, H>
+    pub fn eviction_listener<H: Listener<K, V>>(self, listener: H) -> CacheBuilder<K, V, E, H, P>
         ensures listener { result.listener ≡ Some listener }
         // All else is kept.
         ensures name { result.name ≡ self.name }
@@ -161,7 +163,10 @@ where
     }
 
     /// Sets the listener, as `eviction_listener` does: a cache has one listener, which is polled.
-    pub fn async_eviction_listener<H: Listener<K, V>>(self, listener: H) -> CacheBuilder<K, V, E, H>
+    pub fn async_eviction_listener<H: Listener<K, V>>(
+        self,
+        listener: H,
+    ) -> CacheBuilder<K, V, E, H, P>
         ensures listener { result.listener ≡ Some listener }
         // All else is kept.
         ensures name { result.name ≡ self.name }
@@ -173,11 +178,41 @@ where
         self.eviction_listener(listener)
     }
 
+    /// Sets the fact that each key and value of the cache is to meet. Who hands a value in owes it, and
+    /// who gets one has it, for the key by which it was asked for.
+    pub fn such<Q: Fact<K, V>>(self) -> CacheBuilder<K, V, E, L, Q>
+        ensures name { result.name ≡ self.name }
+        ensures capacity { result.max_capacity ≡ self.max_capacity }
+        ensures initial { result.initial_capacity ≡ self.initial_capacity }
+        ensures live { result.time_to_live ≡ self.time_to_live }
+        ensures idle { result.time_to_idle ≡ self.time_to_idle }
+        ensures listener { result.listener ≡ self.listener }
+    {
+        let CacheBuilder {
+            name,
+            max_capacity,
+            initial_capacity,
+            time_to_live,
+            time_to_idle,
+            listener,
+            types: _,
+        } = self;
+        CacheBuilder {
+            name,
+            max_capacity,
+            initial_capacity,
+            time_to_live,
+            time_to_idle,
+            listener,
+            types: PhantomData,
+        }
+    }
+
     /// Builds the cache. It is refused where a time is longer than 31,536,000,000 seconds, a
     /// thousand years of 365 days, even by a nanosecond: by `TimeToLiveTooLong`, and where only the
     /// time to idle is, by `TimeToIdleTooLong`, whatever memory there is. Else `Memory` is the only
     /// error.
-    pub fn build(self, alloc: Global) -> Result<Cache<K, V, E, L>, BuildError>
+    pub fn build(self, alloc: Global) -> Result<Cache<K, V, E, L, FixedSeed, P>, BuildError>
         ensures rules { IfOk result (λ cache. rules_of cache ≡ rules_asked self) }
         ensures name { IfOk result (λ cache. name_of cache ≡ option_map string_bytes self.name) }
         ensures listener { IfOk result (λ cache. listener_of cache ≡ self.listener) }
@@ -198,7 +233,7 @@ where
         self,
         alloc: Global,
         hasher: S,
-    ) -> Result<Cache<K, V, E, L, S>, BuildError>
+    ) -> Result<Cache<K, V, E, L, S, P>, BuildError>
         ensures rules { IfOk result (λ cache. rules_of cache ≡ rules_asked self) }
         ensures name { IfOk result (λ cache. name_of cache ≡ option_map string_bytes self.name) }
         ensures listener { IfOk result (λ cache. listener_of cache ≡ self.listener) }

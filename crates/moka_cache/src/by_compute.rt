@@ -4,13 +4,14 @@ ghost use Rattle.std.specs.Option.{option_copied};
 ghost use Rattle.futures.specs.Poll.{IfReady, OnPending};
 ghost use Rattle.futures.specs.Task.{IsArmed, Keeps};
 ghost use Rattle.moka_hist.specs.declared.events.Op.{Op};
-ghost use Rattle.moka_cache.specs.Asked.{AsksNothing, Untested};
+ghost use Rattle.moka_cache.specs.Asked.{AsksNothing, FoundSo, Untested};
 ghost use Rattle.moka_cache.specs.Computes.{CanGo, CanPut, Ended, GivesOp, GivesPut, MayGive, Pends};
 ghost use Rattle.moka_cache.specs.Computes.{WasBegun};
 
 use crate::asked::Asked;
 use crate::compute::Compute;
 use futures::task::{Context, Poll};
+use moka_facts::Fact;
 use moka_hist::{Entry, Op, Told};
 use std::mem;
 
@@ -29,8 +30,8 @@ pub struct ByCompute<C> {
     pub(crate) stage: ComputeStage<C>,
 }
 
-impl<K, V, E, C: Compute<K, V, E>> Asked<K, V, E> for ByCompute<C> {
-    ghost can_poll = { λ asked. CanGo C.can_start C.can_poll asked.stage };
+impl<K: Eq, V, E, C: Compute<K, V, E>, P: Fact<K, V>> Asked<K, V, E, P> for ByCompute<C> {
+    ghost can_poll = { λ asked. CanGo P.holds C.can_start C.can_poll asked.stage };
 
     ghost gives = { GivesOp C.gives };
 
@@ -43,7 +44,7 @@ impl<K, V, E, C: Compute<K, V, E>> Asked<K, V, E> for ByCompute<C> {
     }
 
     fn begin(&mut self, found: Option<&Entry<K, V>>) {
-        start_in::<K, V, E, C>(&mut self.stage, found);
+        start_in::<K, V, E, C, P>(&mut self.stage, found);
     }
 
     ghost tests = { λ asked. Untested };
@@ -55,7 +56,7 @@ impl<K, V, E, C: Compute<K, V, E>> Asked<K, V, E> for ByCompute<C> {
     }
 
     fn poll(&mut self, cx: &mut Context<'_>) -> Poll<Option<Told<V, E>>> {
-        match poll_in::<K, V, E, C>(&mut self.stage, cx) {
+        match poll_in::<K, V, E, C, P>(&mut self.stage, cx) {
             Poll::Ready(Some(Ok(op))) => Poll::Ready(Some(Told::Op(op))),
             Poll::Ready(Some(Err(error))) => Poll::Ready(Some(Told::Err(error))),
             Poll::Ready(None) => Poll::Ready(None),
@@ -70,8 +71,8 @@ pub struct ByUpsert<C> {
     pub(crate) stage: ComputeStage<C>,
 }
 
-impl<K, V, E, C: Compute<K, V, E>> Asked<K, V, E> for ByUpsert<C> {
-    ghost can_poll = { CanPut C.can_start C.can_poll C.gives };
+impl<K: Eq, V, E, C: Compute<K, V, E>, P: Fact<K, V>> Asked<K, V, E, P> for ByUpsert<C> {
+    ghost can_poll = { CanPut P.holds C.can_start C.can_poll C.gives };
 
     ghost gives = { GivesPut C.gives };
 
@@ -84,7 +85,7 @@ impl<K, V, E, C: Compute<K, V, E>> Asked<K, V, E> for ByUpsert<C> {
     }
 
     fn begin(&mut self, found: Option<&Entry<K, V>>) {
-        start_in::<K, V, E, C>(&mut self.stage, found);
+        start_in::<K, V, E, C, P>(&mut self.stage, found);
     }
 
     ghost tests = { λ asked. Untested };
@@ -96,7 +97,7 @@ impl<K, V, E, C: Compute<K, V, E>> Asked<K, V, E> for ByUpsert<C> {
     }
 
     fn poll(&mut self, cx: &mut Context<'_>) -> Poll<Option<Told<V, E>>> {
-        match poll_in::<K, V, E, C>(&mut self.stage, cx) {
+        match poll_in::<K, V, E, C, P>(&mut self.stage, cx) {
             Poll::Ready(Some(Ok(Op::Put(value)))) => Poll::Ready(Some(Told::Value(value))),
             Poll::Ready(Some(_)) => unreachable!(),
             Poll::Ready(None) => Poll::Ready(None),
@@ -106,10 +107,14 @@ impl<K, V, E, C: Compute<K, V, E>> Asked<K, V, E> for ByUpsert<C> {
 }
 
 // Starts the compute with this, where that was not done before.
-fn start_in<K, V, E, C: Compute<K, V, E>>(stage: &mut ComputeStage<C>, found: Option<&Entry<K, V>>)
-    requires { CanGo C.can_start C.can_poll stage.old }
+fn start_in<K: Eq, V, E, C: Compute<K, V, E>, P: Fact<K, V>>(
+    stage: &mut ComputeStage<C>,
+    found: Option<&Entry<K, V>>,
+)
+    requires go { CanGo P.holds C.can_start C.can_poll stage.old }
+    requires so { FoundSo P.holds (option_copied found) }
     ensures begun { WasBegun C.started stage.old (option_copied found.entry) stage.new }
-    ensures again { CanGo C.can_start C.can_poll stage.new }
+    ensures again { CanGo P.holds C.can_start C.can_poll stage.new }
     ensures same { (r : Result (Op V) E) → MayGive C.gives stage.new r
         → MayGive C.gives stage.old r }
 {
@@ -125,17 +130,17 @@ fn start_in<K, V, E, C: Compute<K, V, E>>(stage: &mut ComputeStage<C>, found: Op
 }
 
 // Goes on with the compute. Answers None where it was not started, or gave its output before.
-fn poll_in<K, V, E, C: Compute<K, V, E>>(
+fn poll_in<K: Eq, V, E, C: Compute<K, V, E>, P: Fact<K, V>>(
     stage: &mut ComputeStage<C>,
     cx: &mut Context<'_>,
 ) -> Poll<Option<Result<Op<V>, E>>>
-    requires { CanGo C.can_start C.can_poll stage.old }
+    requires { CanGo P.holds C.can_start C.can_poll stage.old }
     // What it gives: it was started before, and is over.
     ensures value { IfReady result (λ r. IfSome r (MayGive C.gives stage.old)) }
     ensures ended { IfReady result (λ r. OnSome r (Ended stage.old stage.new)) }
     ensures same { (r : Result (Op V) E) → MayGive C.gives stage.new r
         → MayGive C.gives stage.old r }
-    ensures again { CanGo C.can_start C.can_poll stage.new }
+    ensures again { CanGo P.holds C.can_start C.can_poll stage.new }
     ensures pending { OnPending result (Pends C.pends stage.old stage.new) }
     ensures armed { OnPending result (IsArmed cx.new) }
     ensures kept { Keeps cx.old cx.new }

@@ -1,12 +1,13 @@
 //! Initializers that are asked what a load gives.
 ghost use Rattle.std.specs.Prelude.{◌≡◌, IfSome, IsSomeAnd};
-ghost use Rattle.std.specs.Fn.{CalledAt};
-ghost use Rattle.moka_cache.specs.Asked.{AsksNothing, MayAnswer, Untested};
+ghost use Rattle.std.specs.Fn.{CalledAt, TakesAt};
+ghost use Rattle.moka_cache.specs.Asked.{AsksNothing, CanTest, MayAnswer, Untested};
 ghost use Rattle.moka_cache.specs.Inits.{GivesOption, GivesResult, GivesValue};
 
 use crate::asked::Asked;
 use crate::init::Init;
 use futures::task::{Context, Poll};
+use moka_facts::Fact;
 use moka_hist::{Entry, Told};
 
 /// An initializer that is asked for a value. Once it gave one it is gone, so that it is never
@@ -16,7 +17,7 @@ pub struct ByInit<I> {
     pub(crate) init: Option<I>,
 }
 
-impl<K, V, E, I: Init<V>> Asked<K, V, E> for ByInit<I> {
+impl<K: Eq, V, E, I: Init<V>, P: Fact<K, V>> Asked<K, V, E, P> for ByInit<I> {
     ghost can_poll = { λ asked. IfSome asked.init I.can_poll };
 
     ghost gives = { GivesValue I.gives };
@@ -59,7 +60,7 @@ pub struct ByOptionalInit<I> {
     pub(crate) init: Option<I>,
 }
 
-impl<K, V, E, I: Init<Option<V>>> Asked<K, V, E> for ByOptionalInit<I> {
+impl<K: Eq, V, E, I: Init<Option<V>>, P: Fact<K, V>> Asked<K, V, E, P> for ByOptionalInit<I> {
     ghost can_poll = { λ asked. IfSome asked.init I.can_poll };
 
     ghost gives = { GivesOption I.gives };
@@ -106,7 +107,7 @@ pub struct ByTryInit<I> {
     pub(crate) init: Option<I>,
 }
 
-impl<K, V, E, I: Init<Result<V, E>>> Asked<K, V, E> for ByTryInit<I> {
+impl<K: Eq, V, E, I: Init<Result<V, E>>, P: Fact<K, V>> Asked<K, V, E, P> for ByTryInit<I> {
     ghost can_poll = { λ asked. IfSome asked.init I.can_poll };
 
     ghost gives = { GivesResult I.gives };
@@ -155,9 +156,10 @@ pub struct ByInitIf<I, F> {
     pub(crate) replace_if: F,
 }
 
-impl<K, V, E, I: Init<V>, F: FnMut(&V) -> bool + Drop> Asked<K, V, E> for ByInitIf<I, F> {
+impl<K: Eq, V, E, I: Init<V>, F: FnMut(&V) -> bool + Drop, P: Fact<K, V>> Asked<K, V, E, P>
+    for ByInitIf<I, F> {
     ghost can_poll = { λ asked. IfSome asked.init.init I.can_poll
-        × F.IsAlwaysCallable asked.replace_if };
+        × CanTest (CalledAt F.FnMut) P.holds (TakesAt F.FnMut) asked.replace_if };
 
     ghost gives = { λ asked. GivesValue I.gives asked.init };
 
@@ -182,6 +184,6 @@ impl<K, V, E, I: Init<V>, F: FnMut(&V) -> bool + Drop> Asked<K, V, E> for ByInit
     }
 
     fn poll(&mut self, cx: &mut Context<'_>) -> Poll<Option<Told<V, E>>> {
-        Asked::<K, V, E>::poll(&mut self.init, cx)
+        Asked::<K, V, E, P>::poll(&mut self.init, cx)
     }
 }

@@ -6,6 +6,7 @@ ghost use Rattle.std.specs.String.{string_bytes};
 
 use crate::builder::CacheBuilder;
 use moka_engine::Policy;
+use moka_facts::{Anything, Fact};
 use moka_hist::Rules;
 use moka_kept::{Guarded, NoListener};
 use moka_room::FixedSeed;
@@ -17,19 +18,27 @@ use std::sync::Arc;
 
 // What the clones of a cache share.
 #[derive(Drop)]
-pub(crate) struct Shared<K: Eq + Hash, V, E, L, S: BuildHasher> {
+pub(crate) struct Shared<K: Eq + Hash, V, E, L, S: BuildHasher, P: Fact<K, V>> {
     pub(crate) name: Option<String>,
-    pub(crate) guarded: Guarded<K, V, E, S>,
+    pub(crate) guarded: Guarded<K, V, E, S, P>,
     pub(crate) listener: Option<L>,
     pub(crate) hasher: S,
 }
 
 /// A cache, which any number of tasks on any threads share by its clones. `E` is the type of errors
 /// of its loads that may fail, `()` where it has none; `L` is that of its listener, and `S` of what
-/// makes the hashers of its keys, clones of which its maps by key have.
+/// makes the hashers of its keys, clones of which its maps by key have. `P` is the fact that its keys
+/// and values meet, `Anything` where none is asked; no value of it is ever made.
 #[derive(Drop)]
-pub struct Cache<K: Eq + Hash, V, E = (), L = NoListener, S: BuildHasher = FixedSeed> {
-    pub(crate) shared: Arc<Shared<K, V, E, L, S>, Global>,
+pub struct Cache<
+    K: Eq + Hash,
+    V,
+    E = (),
+    L = NoListener,
+    S: BuildHasher = FixedSeed,
+    P: Fact<K, V> = Anything,
+> {
+    pub(crate) shared: Arc<Shared<K, V, E, L, S, P>, Global>,
 }
 
 impl<K, V, E> Cache<K, V, E>
@@ -87,13 +96,14 @@ where
     }
 }
 
-impl<K, V, E, L, S> Cache<K, V, E, L, S>
+impl<K, V, E, L, S, P> Cache<K, V, E, L, S, P>
 where
     K: Eq + Hash + Exact,
     V: Exact,
     E: Exact,
     L: Drop,
     S: BuildHasher + Drop,
+    P: Fact<K, V>,
 {
     ghost use Rattle.moka_cache.specs.Settings.{hasher_of, listener_of, name_of, rules_of};
 
@@ -132,7 +142,7 @@ where
     pub fn name(&self) -> Option<&str>
         ensures { option_map (λ s. s.now) result ≡ name_of self.now }
     {
-        let shared: &Shared<K, V, E, L, S> = &self.shared;
+        let shared: &Shared<K, V, E, L, S, P> = &self.shared;
         match &shared.name {
             Some(name) => Some(name.as_str()),
             None => None,
@@ -143,7 +153,7 @@ where
     pub fn policy(&self) -> Policy
         ensures { result.rules ≡ rules_of self.now }
     {
-        let shared: &Shared<K, V, E, L, S> = &self.shared;
+        let shared: &Shared<K, V, E, L, S, P> = &self.shared;
         Policy {
             rules: shared.guarded.rules,
         }
@@ -151,13 +161,14 @@ where
 }
 
 /// Writes the name and the policy, and takes no lock for it.
-impl<K, V, E, L, S> fmt::Debug for Cache<K, V, E, L, S>
+impl<K, V, E, L, S, P> fmt::Debug for Cache<K, V, E, L, S, P>
 where
     K: Eq + Hash + Exact,
     V: Exact,
     E: Exact,
     L: Drop,
     S: BuildHasher + Drop,
+    P: Fact<K, V>,
 {
     fn fmt<W: fmt::Write>(&self, f: &mut fmt::Formatter<W>) -> fmt::Result {
         f.debug_struct("Cache")
@@ -168,13 +179,14 @@ where
 }
 
 /// A clone shares the cache. It is an error only where no further owner can be counted.
-impl<K, V, E, L, S> Clone for Cache<K, V, E, L, S>
+impl<K, V, E, L, S, P> Clone for Cache<K, V, E, L, S, P>
 where
     K: Eq + Hash + Exact,
     V: Exact,
     E: Exact,
     L: Drop,
     S: BuildHasher + Drop,
+    P: Fact<K, V>,
 {
     ghost is_clone = { λ cache copy. arc_value copy.shared ≡ arc_value cache.shared };
 

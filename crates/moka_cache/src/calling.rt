@@ -21,11 +21,11 @@ pub(crate) enum Calling<F, G> {
 }
 
 impl<F: Drop, G: Future> Calling<F, G> {
-    /// Calls the closure with what was found, and keeps its future.
+    /// Calls the closure with what was found, with which it may be called, and keeps its future.
     pub(crate) fn call<K, V>(&mut self, found: Option<&Entry<K, V>>)
     where
         F: FnOnce(Option<&Entry<K, V>>) -> G,
-        requires { CanCall F.pre F.post G.can_poll self.old }
+        requires { CanCall F.pre F.post G.can_poll self.old (option_copied found) }
         ensures ready { CanGoOn G.can_poll self.new }
         ensures called { WasCalled F.post G.gives self.new (option_copied found.entry) }
         ensures same { (x : _) → CallsTo F.post G.gives self.new x

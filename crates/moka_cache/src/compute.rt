@@ -13,8 +13,8 @@ use moka_hist::{Entry, Op};
 /// lock: `start` once, when the compute is the owner and has looked the key up, and then `poll`
 /// until it gives its output; then it is dropped.
 pub trait Compute<K, V, E>: Drop {
-    /// Holds of the states in which it may be started.
-    ghost can_start: { Self → Type 0 } = { λ _. ⊤ };
+    /// Holds of the states in which it may be started with this.
+    ghost can_start: { Self → Option (Entry K V) → Type 0 } = { λ _ _. ⊤ };
 
     /// Holds of the states in which it may be polled, once it was started.
     ghost can_poll: { Self → Type 0 } = { λ _. ⊤ };
@@ -31,7 +31,7 @@ pub trait Compute<K, V, E>: Drop {
     /// Starts with what the key has, if anything: the stored key and its value, neither fresh nor
     /// replaced.
     fn start(&mut self, found: Option<&Entry<K, V>>)
-        requires { can_start self.old }
+        requires { can_start self.old (option_copied found) }
         ensures ready { can_poll self.new }
         ensures started { started self.new (option_copied found.entry) }
         ensures same { (r : Result (Op V) E) → gives self.new r → gives self.old r };

@@ -36,7 +36,7 @@ where
     F: FnOnce(Option<&Entry<K, V>>) -> G + Drop,
     G: Future<Output = Op<V>>,
 {
-    ghost can_start = { λ by. CanCall F.pre F.post G.can_poll by.calling };
+    ghost can_start = { λ by found. CanCall F.pre F.post G.can_poll by.calling found };
 
     ghost can_poll = { λ by. CanGoOn G.can_poll by.calling };
 
@@ -80,7 +80,7 @@ where
     F: FnOnce(Option<&Entry<K, V>>) -> G + Drop,
     G: Future<Output = Result<Op<V>, E>>,
 {
-    ghost can_start = { λ by. CanCall F.pre F.post G.can_poll by.calling };
+    ghost can_start = { λ by found. CanCall F.pre F.post G.can_poll by.calling found };
 
     ghost can_poll = { λ by. CanGoOn G.can_poll by.calling };
 
@@ -121,7 +121,7 @@ where
     F: FnOnce(Option<&Entry<K, V>>) -> G + Drop,
     G: Future<Output = V>,
 {
-    ghost can_start = { λ by. CanCall F.pre F.post G.can_poll by.calling };
+    ghost can_start = { λ by found. CanCall F.pre F.post G.can_poll by.calling found };
 
     ghost can_poll = { λ by. CanGoOn G.can_poll by.calling };
 

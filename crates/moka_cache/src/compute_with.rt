@@ -1,5 +1,9 @@
 //! Computing what a key has.
-ghost use Rattle.std.specs.Prelude.{◌≡◌, Some, None, Result, IsSome, IsOk};
+ghost use Rattle.std.specs.Prelude.{◌≡◌, Some, None, Result, IsSome, IsOk, Ok};
+ghost use Rattle.moka_laws.specs.Given.{value_done};
+ghost use Rattle.moka_cache.specs.Asked.{Accords, Untested};
+ghost use Rattle.moka_cache.specs.Meets.{GivesSo, MeetsFact};
+ghost use Rattle.moka_hist.specs.declared.events.Op.TheVariants as op;
 ghost use Rattle.moka_hist.specs.declared.events.Start.TheVariants as Start;
 ghost use Rattle.moka_hist.specs.declared.events.Op.{Op};
 ghost use Rattle.moka_cache.specs.Computes.{GivesOp};
@@ -16,6 +20,7 @@ use crate::call::CacheCall;
 use crate::compute::Compute;
 use crate::entry::EntrySelector;
 use crate::key::CallKey;
+use moka_facts::{Anything, Fact};
 use moka_hist::{Answer, CompResult, Op, Start};
 use moka_kept::{Listener, NoListener};
 use moka_room::FixedSeed;
@@ -56,7 +61,7 @@ impl<K: Exact, V: Drop, E: Drop> Begin<K, V, E> for ToCompute<'_, K> {
 }
 
 /// Asks what is to be done with a key, and does it, polled until that is logged.
-pub type ComputeWith<'a, K, V, E, C, L = NoListener, S = FixedSeed> = CacheCall<
+pub type ComputeWith<'a, K, V, E, C, L = NoListener, S = FixedSeed, P = Anything> = CacheCall<
     'a,
     ToCompute<'a, K>,
     K,
@@ -65,29 +70,42 @@ pub type ComputeWith<'a, K, V, E, C, L = NoListener, S = FixedSeed> = CacheCall<
     ByCompute<C>,
     L,
     S,
+    P,
 >;
 
-impl<'a, K, V, E, L, S> EntrySelector<'a, K, V, E, L, S>
+impl<'a, K, V, E, L, S, P> EntrySelector<'a, K, V, E, L, S, P>
 where
     K: Eq + Hash + Exact,
     V: Exact,
     E: Exact,
     L: Listener<K, V>,
     S: BuildHasher + Drop,
+    P: Fact<K, V>,
 {
     /// Waits until no other compute of the key goes, looks the key up, asks what is to be done with
     /// what it has, and does that. Answers what it has done.
     pub fn and_compute_with<C: Compute<K, V, E>>(
         self,
         compute: C,
-    ) -> ComputeWith<'a, K, V, E, C, L, S>
-        requires { (r : Result (Op V) E) → C.gives compute r → IsOk r }
+    ) -> ComputeWith<'a, K, V, E, C, L, S, P>
+        requires fine { (r : Result (Op V) E) → C.gives compute r → IsOk r }
+        requires fact { (value : V) → C.gives compute (Ok (op.Put value)) → P.holds
+            (key_of self.key) value }
         ensures fresh { BeginsWith result.stage (λ begin. begin.key ≡ self.entry.key) }
         ensures may { MayPoll result.stage }
         ensures compute { result.asked.stage ≡ ComputeStage.Fresh compute }
         ensures tells { Tells K.eq (GivesOp C.gives result.asked) (called
             (rules_of result.cache.now) (λ begin. Start.Compute (key_of begin.key)))
             (λ named answer. computed_in answer) result.stage }
+        // What it stores, tells and answers meets the fact.
+        ensures so { MeetsFact K.eq P.holds (λ begin. None) (GivesOp C.gives result.asked) Untested
+            (called (rules_of result.cache.now) (λ begin. Start.Compute (key_of begin.key)))
+            result.stage result.named }
+        ensures gives { GivesSo K.eq P.holds (Accords (GivesOp C.gives result.asked) Untested)
+            (rules_of result.cache.now) (λ begin. Start.Compute (key_of begin.key))
+            (λ begin. None) (λ named answer. computed_in answer) result.stage result.named
+            (λ done. (value : V) → value_done done ≡ Some value → P.holds (key_of self.entry.key)
+            value) }
         ensures cache { result.cache.now ≡ self.entry.cache.now }
     {
         moka_shapes::computes_tell::<K, V, E>();

@@ -1,5 +1,10 @@
 //! Looking a value up.
-ghost use Rattle.std.specs.Prelude.{◌≡◌, Some, None};
+ghost use Rattle.std.specs.Prelude.{◌≡◌, Some, None, IfSome};
+ghost use Rattle.moka_cache.specs.Settings.{rules_of};
+ghost use Rattle.moka_cache.specs.Starts.{called};
+ghost use Rattle.moka_kept.specs.Taking.{NoAnswer};
+ghost use Rattle.moka_cache.specs.Asked.{Accords, Untested};
+ghost use Rattle.moka_cache.specs.Meets.{GivesSo, MeetsFact};
 ghost use Rattle.moka_hist.specs.declared.events.Start.TheVariants as Start;
 ghost use Rattle.moka_cache.specs.Suits.{Suits};
 ghost use Rattle.moka_cache.specs.Stages.{BeginsWith, MayPoll, value_in};
@@ -8,6 +13,7 @@ use crate::asked::Nobody;
 use crate::begin::{Begin, Begun};
 use crate::cache::Cache;
 use crate::call::CacheCall;
+use moka_facts::{Anything, Fact};
 use moka_hist::{Answer, Start};
 use moka_kept::{Listener, NoListener};
 use moka_room::FixedSeed;
@@ -21,7 +27,7 @@ pub struct ToGet<'a, K> {
 }
 
 /// Looks the value of a key up, polled until it is found, or known to be absent.
-pub type Get<'a, K, V, E, L = NoListener, S = FixedSeed> = CacheCall<
+pub type Get<'a, K, V, E, L = NoListener, S = FixedSeed, P = Anything> = CacheCall<
     'a,
     ToGet<'a, K>,
     K,
@@ -30,6 +36,7 @@ pub type Get<'a, K, V, E, L = NoListener, S = FixedSeed> = CacheCall<
     Nobody,
     L,
     S,
+    P,
 >;
 
 impl<K: Exact, V: Drop, E: Drop> Begin<K, V, E> for ToGet<'_, K> {
@@ -55,19 +62,28 @@ impl<K: Exact, V: Drop, E: Drop> Begin<K, V, E> for ToGet<'_, K> {
     }
 }
 
-impl<K, V, E, L, S> Cache<K, V, E, L, S>
+impl<K, V, E, L, S, P> Cache<K, V, E, L, S, P>
 where
     K: Eq + Hash + Exact,
     V: Exact,
     E: Exact,
     L: Listener<K, V>,
     S: BuildHasher + Drop,
+    P: Fact<K, V>,
 {
     /// Looks the key up. Answers its value, or None where it is absent.
-    pub fn get<'a>(&'a self, key: &'a K) -> Get<'a, K, V, E, L, S>
+    pub fn get<'a>(&'a self, key: &'a K) -> Get<'a, K, V, E, L, S, P>
         ensures fresh { BeginsWith result.stage (λ get. get.key.now ≡ key.now) }
         ensures may { MayPoll result.stage }
         ensures suits { Suits K.eq (λ get. Start.Get get.key.now) result.stage }
+        // What it stores, tells and answers meets the fact.
+        ensures so { MeetsFact K.eq P.holds (λ get. None) NoAnswer Untested
+            (called (rules_of result.cache.now) (λ get. Start.Get get.key.now))
+            result.stage result.named }
+        ensures gives { GivesSo K.eq P.holds (Accords NoAnswer Untested)
+            (rules_of result.cache.now) (λ get. Start.Get get.key.now)
+            (λ get. None) (λ named answer. Some (value_in answer)) result.stage result.named
+            (λ found. IfSome found (P.holds key.now)) }
         ensures cache { result.cache.now ≡ self.now }
     {
         self.call(ToGet { key })

@@ -1,5 +1,8 @@
 //! Loading a value.
-ghost use Rattle.std.specs.Prelude.{◌≡◌, Some, None, IsSome};
+ghost use Rattle.std.specs.Prelude.{◌≡◌, Some, None, IsSome, IfOk};
+ghost use Rattle.std.specs.Fn.{CalledAt};
+ghost use Rattle.moka_cache.specs.Asked.{Accords, MayAnswer, Untested};
+ghost use Rattle.moka_cache.specs.Meets.{GivesSo, MeetsFact};
 ghost use Rattle.moka_hist.specs.declared.events.Start.TheVariants as Start;
 ghost use Rattle.moka_cache.specs.Inits.{GivesValue};
 ghost use Rattle.moka_cache.specs.Keys.{key_of};
@@ -16,6 +19,7 @@ use crate::call::CacheCall;
 use crate::errors::RetriesExhausted;
 use crate::init::Init;
 use crate::key::CallKey;
+use moka_facts::{Anything, Fact};
 use moka_hist::{Answer, Start};
 use moka_kept::{Listener, NoListener};
 use moka_room::FixedSeed;
@@ -31,7 +35,7 @@ pub struct ToLoad<'a, K> {
 }
 
 /// Looks the value of a key up, or loads it, polled until it is there.
-pub type GetWith<'a, K, V, E, I, L = NoListener, S = FixedSeed> = CacheCall<
+pub type GetWith<'a, K, V, E, I, L = NoListener, S = FixedSeed, P = Anything> = CacheCall<
     'a,
     ToLoad<'a, K>,
     K,
@@ -40,11 +44,12 @@ pub type GetWith<'a, K, V, E, I, L = NoListener, S = FixedSeed> = CacheCall<
     ByInit<I>,
     L,
     S,
+    P,
 >;
 
 /// Looks the value of a key up, or loads it where it is absent or a replace test holds on it,
 /// polled until it is there.
-pub type GetWithIf<'a, K, V, E, I, F, L = NoListener, S = FixedSeed> = CacheCall<
+pub type GetWithIf<'a, K, V, E, I, F, L = NoListener, S = FixedSeed, P = Anything> = CacheCall<
     'a,
     ToLoad<'a, K>,
     K,
@@ -53,6 +58,7 @@ pub type GetWithIf<'a, K, V, E, I, F, L = NoListener, S = FixedSeed> = CacheCall
     ByInitIf<I, F>,
     L,
     S,
+    P,
 >;
 
 impl<K: Exact, V: Drop, E: Drop> Begin<K, V, E> for ToLoad<'_, K> {
@@ -60,14 +66,14 @@ impl<K: Exact, V: Drop, E: Drop> Begin<K, V, E> for ToLoad<'_, K> {
 
     ghost start = { λ load. Start.GetWith (key_of load.key) load.replace };
 
-    ghost named = { λ load. None };
+    ghost named = { λ load. Some (key_of load.key) };
 
     ghost output = { λ named answer. loaded_in answer };
 
     fn start(self) -> Result<Begun<K, V>, Self> {
         let ToLoad { key, replace } = self;
-        match key.into_key() {
-            Ok(key) => Ok(Begun::unnamed(Start::GetWith { key, replace })),
+        match key.into_two() {
+            Ok((key, named)) => Ok(Begun::named(Start::GetWith { key, replace }, named)),
             Err(key) => Err(ToLoad { key, replace }),
         }
     }
@@ -84,18 +90,20 @@ impl<K: Exact, V: Drop, E: Drop> Begin<K, V, E> for ToLoad<'_, K> {
     }
 }
 
-impl<K, V, E, L, S> Cache<K, V, E, L, S>
+impl<K, V, E, L, S, P> Cache<K, V, E, L, S, P>
 where
     K: Eq + Hash + Exact,
     V: Exact,
     E: Exact,
     L: Listener<K, V>,
     S: BuildHasher + Drop,
+    P: Fact<K, V>,
 {
     /// Looks the key up, and loads its value where it is absent. Of all callers that miss the key
     /// at once one owns the load and has its `init` polled; the others answer what that gave.
     /// Answers `RetriesExhausted` once 200 owners were dropped while this call waited for them.
-    pub fn get_with<'a, I: Init<V>>(&'a self, key: K, init: I) -> GetWith<'a, K, V, E, I, L, S>
+    pub fn get_with<'a, I: Init<V>>(&'a self, key: K, init: I) -> GetWith<'a, K, V, E, I, L, S, P>
+        requires fact { (value : V) → I.gives init value → P.holds key value }
         ensures fresh { BeginsWith result.stage
             (λ load. (key_of load.key ≡ key) × (load.replace ≡ None)) }
         ensures may { MayPoll result.stage }
@@ -103,6 +111,17 @@ where
         ensures tells { Tells K.eq (GivesValue I.gives result.asked) (called
             (rules_of result.cache.now) (λ load. Start.GetWith (key_of load.key) load.replace))
             (λ named answer. loaded_in answer) result.stage }
+        // What it stores, tells and answers meets the fact.
+        ensures so { MeetsFact K.eq P.holds (λ load. Some (key_of load.key))
+            (GivesValue I.gives result.asked) Untested
+            (called (rules_of result.cache.now)
+            (λ load. Start.GetWith (key_of load.key) load.replace))
+            result.stage result.named }
+        ensures gives { GivesSo K.eq P.holds (Accords (GivesValue I.gives result.asked) Untested)
+            (rules_of result.cache.now) (λ load. Start.GetWith (key_of load.key) load.replace)
+            (λ load. Some (key_of load.key)) (λ named answer. loaded_in answer) result.stage
+            result.named
+            (λ told. IfOk told (P.holds key)) }
         ensures cache { result.cache.now ≡ self.now }
     {
         moka_shapes::loads_tell::<K, V, E>();
@@ -117,7 +136,8 @@ where
         &'a self,
         key: &'a K,
         init: I,
-    ) -> GetWith<'a, K, V, E, I, L, S>
+    ) -> GetWith<'a, K, V, E, I, L, S, P>
+        requires fact { (value : V) → I.gives init value → P.holds key.now value }
         ensures fresh { BeginsWith result.stage
             (λ load. (key_of load.key ≡ key.now) × (load.replace ≡ None)) }
         ensures may { MayPoll result.stage }
@@ -125,6 +145,17 @@ where
         ensures tells { Tells K.eq (GivesValue I.gives result.asked) (called
             (rules_of result.cache.now) (λ load. Start.GetWith (key_of load.key) load.replace))
             (λ named answer. loaded_in answer) result.stage }
+        // What it stores, tells and answers meets the fact.
+        ensures so { MeetsFact K.eq P.holds (λ load. Some (key_of load.key))
+            (GivesValue I.gives result.asked) Untested
+            (called (rules_of result.cache.now)
+            (λ load. Start.GetWith (key_of load.key) load.replace))
+            result.stage result.named }
+        ensures gives { GivesSo K.eq P.holds (Accords (GivesValue I.gives result.asked) Untested)
+            (rules_of result.cache.now) (λ load. Start.GetWith (key_of load.key) load.replace)
+            (λ load. Some (key_of load.key)) (λ named answer. loaded_in answer) result.stage
+            result.named
+            (λ told. IfOk told (P.holds key.now)) }
         ensures cache { result.cache.now ≡ self.now }
     {
         moka_shapes::loads_tell::<K, V, E>();
@@ -143,7 +174,8 @@ where
         key: K,
         init: I,
         replace_if: F,
-    ) -> GetWithIf<'a, K, V, E, I, F, L, S>
+    ) -> GetWithIf<'a, K, V, E, I, F, L, S, P>
+        requires fact { (value : V) → I.gives init value → P.holds key value }
         ensures fresh { BeginsWith result.stage
             (λ load. (key_of load.key ≡ key) × IsSome load.replace) }
         ensures may { MayPoll result.stage }
@@ -152,6 +184,20 @@ where
         ensures tells { Tells K.eq (GivesValue I.gives result.asked.init) (called
             (rules_of result.cache.now) (λ load. Start.GetWith (key_of load.key) load.replace))
             (λ named answer. loaded_in answer) result.stage }
+        // What it stores, tells and answers meets the fact.
+        ensures so { MeetsFact K.eq P.holds (λ load. Some (key_of load.key))
+            (GivesValue I.gives result.asked.init)
+            (MayAnswer (CalledAt F.FnMut) result.asked.replace_if)
+            (called (rules_of result.cache.now)
+            (λ load. Start.GetWith (key_of load.key) load.replace))
+            result.stage result.named }
+        ensures gives { GivesSo K.eq P.holds
+            (Accords (GivesValue I.gives result.asked.init)
+            (MayAnswer (CalledAt F.FnMut) result.asked.replace_if))
+            (rules_of result.cache.now) (λ load. Start.GetWith (key_of load.key) load.replace)
+            (λ load. Some (key_of load.key)) (λ named answer. loaded_in answer) result.stage
+            result.named
+            (λ told. IfOk told (P.holds key)) }
         ensures cache { result.cache.now ≡ self.now }
     {
         moka_shapes::loads_tell::<K, V, E>();

@@ -2,9 +2,10 @@
 //! and polled.
 ghost use Rattle.std.specs.Prelude.{◌≡◌, ◌⊎◌, Some, None, IfNone, IfSome, IsSome};
 ghost use Rattle.std.specs.Option.{option_or};
+ghost use Rattle.moka_kept.specs.Meets.{pair_asked, pair_told};
 ghost use Rattle.futures.specs.Poll.{IfReady, OnPending};
 ghost use Rattle.futures.specs.Task.{IsArmed, Keeps};
-ghost use Rattle.moka_cache.specs.Asked.{BegunBy, BegunFor, entry_of};
+ghost use Rattle.moka_cache.specs.Asked.{BegunBy, BegunFor, FoundSo, entry_of};
 ghost use Rattle.moka_kept.specs.Ends.{MayEnd};
 ghost use Rattle.moka_kept.specs.Stops.{IsWaiting};
 ghost use Rattle.moka_cache.specs.Hearing.{Awaits, Ends, FollowsStop, IsHeard, MayPend, Unheard};
@@ -15,6 +16,7 @@ use crate::asked::Asked;
 use crate::cache::Shared;
 use crate::errors::PollError;
 use futures::task::{Context, Poll};
+use moka_facts::Fact;
 use moka_hist::{Answer, Entry};
 use moka_kept::{DueNotice, Heard, Listener, Live, OwnAsk, Stop};
 use moka_values::Exact;
@@ -29,19 +31,20 @@ pub(crate) enum Turned<T> {
     Over(Poll<T>),
 }
 
-impl<K, V, E, L, S> Shared<K, V, E, L, S>
+impl<K, V, E, L, S, P> Shared<K, V, E, L, S, P>
 where
     K: Eq + Hash + Exact,
     V: Exact,
     E: Exact,
     L: Listener<K, V>,
     S: BuildHasher + Drop,
+    P: Fact<K, V>,
 {
     /// What follows a hold that left the call of the flow so: a listener that it asks is started;
     /// who answers its own ask begins, where that is of a compute; and where the call stands at a
     /// notice, which runs, the listener is polled for that: its own, that of an owed write that it
     /// took up, or that which keeps the lock that it waits for.
-    pub(crate) fn after<Q: Asked<K, V, E>>(
+    pub(crate) fn after<Q: Asked<K, V, E, P>>(
         &self,
         flow: &Live<K, V, E>,
         stop: Stop<K, V, E>,
@@ -49,8 +52,10 @@ where
         cx: &mut Context<'_>,
     ) -> Turned<Result<Answer<K, V, E>, PollError>>
         requires waits { IsWaiting stop → IsArmed cx.old }
+        requires so { (pair : K × V) → pair_told stop ≡ Some pair → P.holds pair.0 pair.1 }
         requires asks { Q.can_poll asked.old }
-        requires hears { (l : L) (key : K) (value : V) → L.hears l key value }
+        requires hears { (l : L) (key : K) (value : V) → P.holds key value
+            → L.hears l key value }
         ensures begun { BegunBy Q.begins stop asked.old asked.new }
         ensures asked { AskedStays Q.can_poll Q.gives Q.tests asked.old asked.new }
         ensures follows { FollowsStop stop (over_in result) }
@@ -68,7 +73,7 @@ where
         match stop {
             Stop::Going => Turned::On(None),
             Stop::Asks(ask) => {
-                begin_asked::<K, V, E, Q>(ask, asked);
+                begin_asked::<K, V, E, Q, P>(ask, asked);
                 Turned::On(None)
             }
             Stop::Due(due) => self.after_due(flow, due, cx),
@@ -85,7 +90,9 @@ where
         due: DueNotice<K, V>,
         cx: &mut Context<'_>,
     ) -> Turned<Result<Answer<K, V, E>, PollError>>
-        requires hears { (l : L) (key : K) (value : V) → L.hears l key value }
+        requires so { P.holds due.key due.value }
+        requires hears { (l : L) (key : K) (value : V) → P.holds key value
+            → L.hears l key value }
         ensures pends { MayPend (over_in result) }
         ensures cause { over_in result ≡ Some Poll.Pending
             → Awaits (Unheard L.pends self.now.listener) (heard_by flow.now) }
@@ -156,20 +163,28 @@ fn at_notice<K, V, E>(kept: Option<u64>, flow: &Live<K, V, E>) -> Option<u64>
 }
 
 // Who answers the call's own ask begins, if that is of a compute; it is polled in the next turn.
-fn begin_asked<K: Drop, V: Drop, E, Q: Asked<K, V, E>>(ask: OwnAsk<K, V>, asked: &mut Q)
-    requires { Q.can_poll asked.old }
+fn begin_asked<K: Eq + Drop, V: Drop, E, Q: Asked<K, V, E, P>, P: Fact<K, V>>(
+    ask: OwnAsk<K, V>,
+    asked: &mut Q,
+)
+    requires asks { Q.can_poll asked.old }
+    requires so { (pair : K × V) → pair_asked ask ≡ Some pair → P.holds pair.0 pair.1 }
     ensures begun { BegunFor Q.begins ask asked.old asked.new }
     ensures asked { AskedStays Q.can_poll Q.gives Q.tests asked.old asked.new }
 {
     match ask {
         OwnAsk::Init => {}
-        OwnAsk::Compute(found) => begin_with::<K, V, E, Q>(asked, found),
+        OwnAsk::Compute(found) => begin_with::<K, V, E, Q, P>(asked, found),
     }
 }
 
 // Who answers the own ask of a compute begins with the pair that its look found, if it found one.
-fn begin_with<K: Drop, V: Drop, E, Q: Asked<K, V, E>>(asked: &mut Q, found: Option<(K, V)>)
-    requires { Q.can_poll asked.old }
+fn begin_with<K: Eq + Drop, V: Drop, E, Q: Asked<K, V, E, P>, P: Fact<K, V>>(
+    asked: &mut Q,
+    found: Option<(K, V)>,
+)
+    requires asks { Q.can_poll asked.old }
+    requires so { FoundSo P.holds (entry_of found) }
     ensures begun { Q.begins asked.old (entry_of found) asked.new }
     ensures asked { AskedStays Q.can_poll Q.gives Q.tests asked.old asked.new }
 {

@@ -1,5 +1,10 @@
 //! Storing a value.
 ghost use Rattle.std.specs.Prelude.{◌≡◌, Some, None};
+ghost use Rattle.moka_cache.specs.Settings.{rules_of};
+ghost use Rattle.moka_cache.specs.Starts.{called};
+ghost use Rattle.moka_kept.specs.Taking.{NoAnswer};
+ghost use Rattle.moka_cache.specs.Asked.{Untested};
+ghost use Rattle.moka_cache.specs.Meets.{MeetsFact};
 ghost use Rattle.moka_hist.specs.declared.events.Start.TheVariants as Start;
 ghost use Rattle.moka_cache.specs.Suits.{Suits};
 ghost use Rattle.moka_cache.specs.Stages.{BeginsWith, MayPoll};
@@ -8,6 +13,7 @@ use crate::asked::Nobody;
 use crate::begin::{Begin, Begun};
 use crate::cache::Cache;
 use crate::call::CacheCall;
+use moka_facts::{Anything, Fact};
 use moka_hist::{Answer, Start};
 use moka_kept::{Listener, NoListener};
 use moka_room::FixedSeed;
@@ -22,7 +28,7 @@ pub struct ToInsert<K, V> {
 }
 
 /// Stores a value under a key, polled until its write is logged.
-pub type Insert<'a, K, V, E, L = NoListener, S = FixedSeed> = CacheCall<
+pub type Insert<'a, K, V, E, L = NoListener, S = FixedSeed, P = Anything> = CacheCall<
     'a,
     ToInsert<K, V>,
     K,
@@ -31,6 +37,7 @@ pub type Insert<'a, K, V, E, L = NoListener, S = FixedSeed> = CacheCall<
     Nobody,
     L,
     S,
+    P,
 >;
 
 impl<K: Exact, V: Drop, E: Drop> Begin<K, V, E> for ToInsert<K, V> {
@@ -54,20 +61,26 @@ impl<K: Exact, V: Drop, E: Drop> Begin<K, V, E> for ToInsert<K, V> {
     }
 }
 
-impl<K, V, E, L, S> Cache<K, V, E, L, S>
+impl<K, V, E, L, S, P> Cache<K, V, E, L, S, P>
 where
     K: Eq + Hash + Exact,
     V: Exact,
     E: Exact,
     L: Listener<K, V>,
     S: BuildHasher + Drop,
+    P: Fact<K, V>,
 {
     /// Stores the value under the key, in place of the one that is there, if any.
-    pub fn insert<'a>(&'a self, key: K, value: V) -> Insert<'a, K, V, E, L, S>
+    pub fn insert<'a>(&'a self, key: K, value: V) -> Insert<'a, K, V, E, L, S, P>
+        requires fact { P.holds key value }
         ensures fresh { BeginsWith result.stage
             (λ insert. (insert.key ≡ key) × (insert.value ≡ value)) }
         ensures may { MayPoll result.stage }
         ensures suits { Suits K.eq (λ insert. Start.Insert insert.key insert.value) result.stage }
+        // What it stores, tells and answers meets the fact.
+        ensures so { MeetsFact K.eq P.holds (λ insert. None) NoAnswer Untested
+            (called (rules_of result.cache.now) (λ insert. Start.Insert insert.key insert.value))
+            result.stage result.named }
         ensures cache { result.cache.now ≡ self.now }
     {
         self.call(ToInsert { key, value })

@@ -1,5 +1,7 @@
 //! Loading a value that there may be.
-ghost use Rattle.std.specs.Prelude.{◌≡◌, Some, None, IsSome};
+ghost use Rattle.std.specs.Prelude.{◌≡◌, Some, None, IsSome, IfOk, IfSome};
+ghost use Rattle.moka_cache.specs.Asked.{Accords, Untested};
+ghost use Rattle.moka_cache.specs.Meets.{GivesSo, MeetsFact};
 ghost use Rattle.moka_hist.specs.declared.events.Start.TheVariants as Start;
 ghost use Rattle.moka_cache.specs.Inits.{GivesOption};
 ghost use Rattle.moka_cache.specs.Keys.{key_of};
@@ -16,6 +18,7 @@ use crate::call::CacheCall;
 use crate::errors::RetriesExhausted;
 use crate::init::Init;
 use crate::key::CallKey;
+use moka_facts::{Anything, Fact};
 use moka_hist::{Answer, Start};
 use moka_kept::{Listener, NoListener};
 use moka_room::FixedSeed;
@@ -29,7 +32,7 @@ pub struct ToLoadOptionally<'a, K> {
 }
 
 /// Looks the value of a key up, or loads it, if there is one, polled until that is known.
-pub type OptionallyGetWith<'a, K, V, E, I, L = NoListener, S = FixedSeed> = CacheCall<
+pub type OptionallyGetWith<'a, K, V, E, I, L = NoListener, S = FixedSeed, P = Anything> = CacheCall<
     'a,
     ToLoadOptionally<'a, K>,
     K,
@@ -38,6 +41,7 @@ pub type OptionallyGetWith<'a, K, V, E, I, L = NoListener, S = FixedSeed> = Cach
     ByOptionalInit<I>,
     L,
     S,
+    P,
 >;
 
 impl<K: Exact, V: Drop, E: Drop> Begin<K, V, E> for ToLoadOptionally<'_, K> {
@@ -45,13 +49,13 @@ impl<K: Exact, V: Drop, E: Drop> Begin<K, V, E> for ToLoadOptionally<'_, K> {
 
     ghost start = { λ load. Start.Optional (key_of load.key) };
 
-    ghost named = { λ load. None };
+    ghost named = { λ load. Some (key_of load.key) };
 
     ghost output = { λ named answer. optionally_loaded_in answer };
 
     fn start(self) -> Result<Begun<K, V>, Self> {
-        match self.key.into_key() {
-            Ok(key) => Ok(Begun::unnamed(Start::Optional { key })),
+        match self.key.into_two() {
+            Ok((key, named)) => Ok(Begun::named(Start::Optional { key }, named)),
             Err(key) => Err(ToLoadOptionally { key }),
         }
     }
@@ -69,13 +73,14 @@ impl<K: Exact, V: Drop, E: Drop> Begin<K, V, E> for ToLoadOptionally<'_, K> {
     }
 }
 
-impl<K, V, E, L, S> Cache<K, V, E, L, S>
+impl<K, V, E, L, S, P> Cache<K, V, E, L, S, P>
 where
     K: Eq + Hash + Exact,
     V: Exact,
     E: Exact,
     L: Listener<K, V>,
     S: BuildHasher + Drop,
+    P: Fact<K, V>,
 {
     /// Looks the key up, or loads its value, as `get_with` does, by an initializer that may give
     /// none. Then nothing is stored, and all loads of this kind that wait for it answer None too;
@@ -84,13 +89,24 @@ where
         &'a self,
         key: K,
         init: I,
-    ) -> OptionallyGetWith<'a, K, V, E, I, L, S>
+    ) -> OptionallyGetWith<'a, K, V, E, I, L, S, P>
+        requires fact { (value : V) → I.gives init (Some value) → P.holds key value }
         ensures fresh { BeginsWith result.stage (λ load. key_of load.key ≡ key) }
         ensures may { MayPoll result.stage }
         ensures init { result.asked.init ≡ Some init }
         ensures tells { Tells K.eq (GivesOption I.gives result.asked)
             (called (rules_of result.cache.now) (λ load. Start.Optional (key_of load.key)))
             (λ named answer. optionally_loaded_in answer) result.stage }
+        // What it stores, tells and answers meets the fact.
+        ensures so { MeetsFact K.eq P.holds (λ load. Some (key_of load.key))
+            (GivesOption I.gives result.asked) Untested
+            (called (rules_of result.cache.now) (λ load. Start.Optional (key_of load.key)))
+            result.stage result.named }
+        ensures gives { GivesSo K.eq P.holds (Accords (GivesOption I.gives result.asked) Untested)
+            (rules_of result.cache.now) (λ load. Start.Optional (key_of load.key))
+            (λ load. Some (key_of load.key)) (λ named answer. optionally_loaded_in answer)
+            result.stage result.named
+            (λ told. IfOk told (λ found. IfSome found (P.holds key))) }
         ensures cache { result.cache.now ≡ self.now }
     {
         moka_shapes::loads_tell::<K, V, E>();
@@ -107,13 +123,24 @@ where
         &'a self,
         key: &'a K,
         init: I,
-    ) -> OptionallyGetWith<'a, K, V, E, I, L, S>
+    ) -> OptionallyGetWith<'a, K, V, E, I, L, S, P>
+        requires fact { (value : V) → I.gives init (Some value) → P.holds key.now value }
         ensures fresh { BeginsWith result.stage (λ load. key_of load.key ≡ key.now) }
         ensures may { MayPoll result.stage }
         ensures init { result.asked.init ≡ Some init }
         ensures tells { Tells K.eq (GivesOption I.gives result.asked)
             (called (rules_of result.cache.now) (λ load. Start.Optional (key_of load.key)))
             (λ named answer. optionally_loaded_in answer) result.stage }
+        // What it stores, tells and answers meets the fact.
+        ensures so { MeetsFact K.eq P.holds (λ load. Some (key_of load.key))
+            (GivesOption I.gives result.asked) Untested
+            (called (rules_of result.cache.now) (λ load. Start.Optional (key_of load.key)))
+            result.stage result.named }
+        ensures gives { GivesSo K.eq P.holds (Accords (GivesOption I.gives result.asked) Untested)
+            (rules_of result.cache.now) (λ load. Start.Optional (key_of load.key))
+            (λ load. Some (key_of load.key)) (λ named answer. optionally_loaded_in answer)
+            result.stage result.named
+            (λ told. IfOk told (λ found. IfSome found (P.holds key.now))) }
         ensures cache { result.cache.now ≡ self.now }
     {
         moka_shapes::loads_tell::<K, V, E>();

@@ -1,5 +1,7 @@
 //! Storing a value where there is none.
 ghost use Rattle.std.specs.Prelude.{◌≡◌, Some, IsSome};
+ghost use Rattle.moka_cache.specs.Asked.{Accords, Untested};
+ghost use Rattle.moka_cache.specs.Meets.{GivesSo, MeetsFact};
 ghost use Rattle.moka_hist.specs.declared.events.Start.TheVariants as Start;
 ghost use Rattle.moka_cache.specs.Entries.{entry_in};
 ghost use Rattle.moka_cache.specs.Keys.{key_of};
@@ -15,6 +17,7 @@ use crate::call::CacheCall;
 use crate::entry::EntrySelector;
 use crate::key::CallKey;
 use crate::or_insert_with::loaded_entry;
+use moka_facts::{Anything, Fact};
 use moka_hist::{Answer, Entry, Start};
 use moka_kept::{Listener, NoListener};
 use moka_room::FixedSeed;
@@ -29,7 +32,7 @@ pub struct ToInsertEntry<'a, K, V> {
 }
 
 /// Looks the value of a key up, or stores one, polled until that is logged.
-pub type OrInsert<'a, K, V, E, L = NoListener, S = FixedSeed> = CacheCall<
+pub type OrInsert<'a, K, V, E, L = NoListener, S = FixedSeed, P = Anything> = CacheCall<
     'a,
     ToInsertEntry<'a, K, V>,
     K,
@@ -38,6 +41,7 @@ pub type OrInsert<'a, K, V, E, L = NoListener, S = FixedSeed> = CacheCall<
     Nobody,
     L,
     S,
+    P,
 >;
 
 impl<K: Exact, V: Drop, E: Drop> Begin<K, V, E> for ToInsertEntry<'_, K, V> {
@@ -68,18 +72,20 @@ impl<K: Exact, V: Drop, E: Drop> Begin<K, V, E> for ToInsertEntry<'_, K, V> {
     }
 }
 
-impl<'a, K, V, E, L, S> EntrySelector<'a, K, V, E, L, S>
+impl<'a, K, V, E, L, S, P> EntrySelector<'a, K, V, E, L, S, P>
 where
     K: Eq + Hash + Exact,
     V: Exact,
     E: Exact,
     L: Listener<K, V>,
     S: BuildHasher + Drop,
+    P: Fact<K, V>,
 {
     /// Looks the key up, and stores the value where it is absent. The entry is fresh where that was
     /// stored. Of two such calls that both find nothing each stores its own, the later in the place
     /// of the earlier.
-    pub fn or_insert(self, value: V) -> OrInsert<'a, K, V, E, L, S>
+    pub fn or_insert(self, value: V) -> OrInsert<'a, K, V, E, L, S, P>
+        requires fact { P.holds (key_of self.key) value }
         ensures fresh { BeginsWith result.stage
             (λ insert. (insert.key ≡ self.entry.key) × (insert.value ≡ value)) }
         ensures may { MayPoll result.stage }
@@ -87,6 +93,15 @@ where
             result.stage }
         ensures tells { Tells K.eq NoAnswer (called (rules_of result.cache.now)
             (λ insert. Start.OrInsert (key_of insert.key) insert.value)) entry_in result.stage }
+        // What it stores, tells and answers meets the fact.
+        ensures so { MeetsFact K.eq P.holds (λ insert. Some (key_of insert.key)) NoAnswer Untested
+            (called (rules_of result.cache.now)
+            (λ insert. Start.OrInsert (key_of insert.key) insert.value))
+            result.stage result.named }
+        ensures gives { GivesSo K.eq P.holds (Accords NoAnswer Untested)
+            (rules_of result.cache.now) (λ insert. Start.OrInsert (key_of insert.key) insert.value)
+            (λ insert. Some (key_of insert.key)) entry_in result.stage result.named
+            (λ entry. P.holds (key_of self.entry.key) entry.value) }
         ensures cache { result.cache.now ≡ self.entry.cache.now }
     {
         moka_laws::shapes_fit::<K, V, E>();
@@ -95,17 +110,19 @@ where
     }
 }
 
-impl<'a, K, V, E, L, S> EntrySelector<'a, K, V, E, L, S>
+impl<'a, K, V, E, L, S, P> EntrySelector<'a, K, V, E, L, S, P>
 where
     K: Eq + Hash + Exact,
     V: Exact + Default + Drop,
     E: Exact,
     L: Listener<K, V>,
     S: BuildHasher + Drop,
+    P: Fact<K, V>,
 {
     /// Looks the key up, and stores the default value where it is absent, as `or_insert` does. The
     /// default is made now.
-    pub fn or_default(self) -> OrInsert<'a, K, V, E, L, S>
+    pub fn or_default(self) -> OrInsert<'a, K, V, E, L, S, P>
+        requires fact { (value : V) → V.is_default value → P.holds (key_of self.key) value }
         ensures fresh { BeginsWith result.stage
             (λ insert. (insert.key ≡ self.entry.key) × V.is_default insert.value) }
         ensures may { MayPoll result.stage }
@@ -113,6 +130,15 @@ where
             result.stage }
         ensures tells { Tells K.eq NoAnswer (called (rules_of result.cache.now)
             (λ insert. Start.OrInsert (key_of insert.key) insert.value)) entry_in result.stage }
+        // What it stores, tells and answers meets the fact.
+        ensures so { MeetsFact K.eq P.holds (λ insert. Some (key_of insert.key)) NoAnswer Untested
+            (called (rules_of result.cache.now)
+            (λ insert. Start.OrInsert (key_of insert.key) insert.value))
+            result.stage result.named }
+        ensures gives { GivesSo K.eq P.holds (Accords NoAnswer Untested)
+            (rules_of result.cache.now) (λ insert. Start.OrInsert (key_of insert.key) insert.value)
+            (λ insert. Some (key_of insert.key)) entry_in result.stage result.named
+            (λ entry. P.holds (key_of self.entry.key) entry.value) }
         ensures cache { result.cache.now ≡ self.entry.cache.now }
     {
         self.or_insert(V::default())

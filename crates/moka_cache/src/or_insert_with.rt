@@ -1,5 +1,8 @@
 //! Loading an entry.
-ghost use Rattle.std.specs.Prelude.{◌≡◌, Some, None, IsSome, false};
+ghost use Rattle.std.specs.Prelude.{◌≡◌, Some, None, IsSome, false, IfOk};
+ghost use Rattle.std.specs.Fn.{CalledAt};
+ghost use Rattle.moka_cache.specs.Asked.{Accords, MayAnswer, Untested};
+ghost use Rattle.moka_cache.specs.Meets.{GivesSo, MeetsFact};
 ghost use Rattle.moka_hist.specs.declared.events.Start.TheVariants as Start;
 ghost use Rattle.moka_cache.specs.Entries.{loaded_entry_in};
 ghost use Rattle.moka_cache.specs.Inits.{GivesValue};
@@ -16,6 +19,7 @@ use crate::entry::EntrySelector;
 use crate::errors::RetriesExhausted;
 use crate::init::Init;
 use crate::key::CallKey;
+use moka_facts::{Anything, Fact};
 use moka_hist::{Answer, Entry, Start};
 use moka_kept::{Listener, NoListener};
 use moka_room::FixedSeed;
@@ -31,7 +35,7 @@ pub struct ToLoadEntry<'a, K> {
 }
 
 /// Looks the value of a key up, or loads it, polled until it is there.
-pub type OrInsertWith<'a, K, V, E, I, L = NoListener, S = FixedSeed> = CacheCall<
+pub type OrInsertWith<'a, K, V, E, I, L = NoListener, S = FixedSeed, P = Anything> = CacheCall<
     'a,
     ToLoadEntry<'a, K>,
     K,
@@ -40,11 +44,12 @@ pub type OrInsertWith<'a, K, V, E, I, L = NoListener, S = FixedSeed> = CacheCall
     ByInit<I>,
     L,
     S,
+    P,
 >;
 
 /// Looks the value of a key up, or loads it where it is absent or a replace test holds on it,
 /// polled until it is there.
-pub type OrInsertWithIf<'a, K, V, E, I, F, L = NoListener, S = FixedSeed> = CacheCall<
+pub type OrInsertWithIf<'a, K, V, E, I, F, L = NoListener, S = FixedSeed, P = Anything> = CacheCall<
     'a,
     ToLoadEntry<'a, K>,
     K,
@@ -53,6 +58,7 @@ pub type OrInsertWithIf<'a, K, V, E, I, F, L = NoListener, S = FixedSeed> = Cach
     ByInitIf<I, F>,
     L,
     S,
+    P,
 >;
 
 impl<K: Exact, V: Drop, E: Drop> Begin<K, V, E> for ToLoadEntry<'_, K> {
@@ -84,17 +90,19 @@ impl<K: Exact, V: Drop, E: Drop> Begin<K, V, E> for ToLoadEntry<'_, K> {
     }
 }
 
-impl<'a, K, V, E, L, S> EntrySelector<'a, K, V, E, L, S>
+impl<'a, K, V, E, L, S, P> EntrySelector<'a, K, V, E, L, S, P>
 where
     K: Eq + Hash + Exact,
     V: Exact,
     E: Exact,
     L: Listener<K, V>,
     S: BuildHasher + Drop,
+    P: Fact<K, V>,
 {
     /// Looks the key up, or loads its value, as `get_with` does. The entry is fresh where the
     /// initializer of this call gave the value.
-    pub fn or_insert_with<I: Init<V>>(self, init: I) -> OrInsertWith<'a, K, V, E, I, L, S>
+    pub fn or_insert_with<I: Init<V>>(self, init: I) -> OrInsertWith<'a, K, V, E, I, L, S, P>
+        requires fact { (value : V) → I.gives init value → P.holds (key_of self.key) value }
         ensures fresh { BeginsWith result.stage
             (λ load. (load.key ≡ self.entry.key) × (load.replace ≡ None)) }
         ensures may { MayPoll result.stage }
@@ -102,6 +110,16 @@ where
         ensures tells { Tells K.eq (GivesValue I.gives result.asked) (called
             (rules_of result.cache.now) (λ load. Start.GetWith (key_of load.key) load.replace))
             loaded_entry_in result.stage }
+        // What it stores, tells and answers meets the fact.
+        ensures so { MeetsFact K.eq P.holds (λ load. Some (key_of load.key))
+            (GivesValue I.gives result.asked) Untested
+            (called (rules_of result.cache.now)
+            (λ load. Start.GetWith (key_of load.key) load.replace))
+            result.stage result.named }
+        ensures gives { GivesSo K.eq P.holds (Accords (GivesValue I.gives result.asked) Untested)
+            (rules_of result.cache.now) (λ load. Start.GetWith (key_of load.key) load.replace)
+            (λ load. Some (key_of load.key)) loaded_entry_in result.stage result.named
+            (λ told. IfOk told (λ entry. P.holds (key_of self.entry.key) entry.value)) }
         ensures cache { result.cache.now ≡ self.entry.cache.now }
     {
         moka_shapes::loads_tell::<K, V, E>();
@@ -116,7 +134,8 @@ where
         self,
         init: I,
         replace_if: F,
-    ) -> OrInsertWithIf<'a, K, V, E, I, F, L, S>
+    ) -> OrInsertWithIf<'a, K, V, E, I, F, L, S, P>
+        requires fact { (value : V) → I.gives init value → P.holds (key_of self.key) value }
         ensures fresh { BeginsWith result.stage
             (λ load. (load.key ≡ self.entry.key) × IsSome load.replace) }
         ensures may { MayPoll result.stage }
@@ -125,6 +144,19 @@ where
         ensures tells { Tells K.eq (GivesValue I.gives result.asked.init) (called
             (rules_of result.cache.now) (λ load. Start.GetWith (key_of load.key) load.replace))
             loaded_entry_in result.stage }
+        // What it stores, tells and answers meets the fact.
+        ensures so { MeetsFact K.eq P.holds (λ load. Some (key_of load.key))
+            (GivesValue I.gives result.asked.init)
+            (MayAnswer (CalledAt F.FnMut) result.asked.replace_if)
+            (called (rules_of result.cache.now)
+            (λ load. Start.GetWith (key_of load.key) load.replace))
+            result.stage result.named }
+        ensures gives { GivesSo K.eq P.holds
+            (Accords (GivesValue I.gives result.asked.init)
+            (MayAnswer (CalledAt F.FnMut) result.asked.replace_if))
+            (rules_of result.cache.now) (λ load. Start.GetWith (key_of load.key) load.replace)
+            (λ load. Some (key_of load.key)) loaded_entry_in result.stage result.named
+            (λ told. IfOk told (λ entry. P.holds (key_of self.entry.key) entry.value)) }
         ensures cache { result.cache.now ≡ self.entry.cache.now }
     {
         moka_shapes::loads_tell::<K, V, E>();

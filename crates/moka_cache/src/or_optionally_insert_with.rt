@@ -1,5 +1,7 @@
 //! Loading an entry that there may be.
-ghost use Rattle.std.specs.Prelude.{◌≡◌, Some, IsSome};
+ghost use Rattle.std.specs.Prelude.{◌≡◌, Some, IsSome, IfOk, IfSome};
+ghost use Rattle.moka_cache.specs.Asked.{Accords, Untested};
+ghost use Rattle.moka_cache.specs.Meets.{GivesSo, MeetsFact};
 ghost use Rattle.moka_hist.specs.declared.events.Start.TheVariants as Start;
 ghost use Rattle.moka_cache.specs.Entries.{optionally_loaded_entry_in};
 ghost use Rattle.moka_cache.specs.Inits.{GivesOption};
@@ -17,6 +19,7 @@ use crate::errors::RetriesExhausted;
 use crate::init::Init;
 use crate::key::CallKey;
 use crate::or_insert_with::loaded_entry;
+use moka_facts::{Anything, Fact};
 use moka_hist::{Answer, Entry, Start};
 use moka_kept::{Listener, NoListener};
 use moka_room::FixedSeed;
@@ -31,16 +34,8 @@ pub struct ToLoadEntryOptionally<'a, K> {
 }
 
 /// Looks the value of a key up, or loads it, if there is one, polled until that is known.
-pub type OrOptionallyInsertWith<'a, K, V, E, I, L = NoListener, S = FixedSeed> = CacheCall<
-    'a,
-    ToLoadEntryOptionally<'a, K>,
-    K,
-    V,
-    E,
-    ByOptionalInit<I>,
-    L,
-    S,
->;
+pub type OrOptionallyInsertWith<'a, K, V, E, I, L = NoListener, S = FixedSeed, P = Anything> =
+    CacheCall<'a, ToLoadEntryOptionally<'a, K>, K, V, E, ByOptionalInit<I>, L, S, P>;
 
 impl<K: Exact, V: Drop, E: Drop> Begin<K, V, E> for ToLoadEntryOptionally<'_, K> {
     type Output = Result<Option<Entry<K, V>>, RetriesExhausted>;
@@ -74,26 +69,39 @@ impl<K: Exact, V: Drop, E: Drop> Begin<K, V, E> for ToLoadEntryOptionally<'_, K>
     }
 }
 
-impl<'a, K, V, E, L, S> EntrySelector<'a, K, V, E, L, S>
+impl<'a, K, V, E, L, S, P> EntrySelector<'a, K, V, E, L, S, P>
 where
     K: Eq + Hash + Exact,
     V: Exact,
     E: Exact,
     L: Listener<K, V>,
     S: BuildHasher + Drop,
+    P: Fact<K, V>,
 {
     /// Looks the key up, or loads its value, as `optionally_get_with` does. The entry is fresh
     /// where the initializer of this call gave the value.
     pub fn or_optionally_insert_with<I: Init<Option<V>>>(
         self,
         init: I,
-    ) -> OrOptionallyInsertWith<'a, K, V, E, I, L, S>
+    ) -> OrOptionallyInsertWith<'a, K, V, E, I, L, S, P>
+        requires fact { (value : V) → I.gives init (Some value) → P.holds (key_of self.key)
+            value }
         ensures fresh { BeginsWith result.stage (λ load. load.key ≡ self.entry.key) }
         ensures may { MayPoll result.stage }
         ensures init { result.asked.init ≡ Some init }
         ensures tells { Tells K.eq (GivesOption I.gives result.asked)
             (called (rules_of result.cache.now) (λ load. Start.Optional (key_of load.key)))
             optionally_loaded_entry_in result.stage }
+        // What it stores, tells and answers meets the fact.
+        ensures so { MeetsFact K.eq P.holds (λ load. Some (key_of load.key))
+            (GivesOption I.gives result.asked) Untested
+            (called (rules_of result.cache.now) (λ load. Start.Optional (key_of load.key)))
+            result.stage result.named }
+        ensures gives { GivesSo K.eq P.holds (Accords (GivesOption I.gives result.asked) Untested)
+            (rules_of result.cache.now) (λ load. Start.Optional (key_of load.key))
+            (λ load. Some (key_of load.key)) optionally_loaded_entry_in result.stage result.named
+            (λ told. IfOk told (λ found. IfSome found
+            (λ entry. P.holds (key_of self.entry.key) entry.value))) }
         ensures cache { result.cache.now ≡ self.entry.cache.now }
     {
         moka_shapes::loads_tell::<K, V, E>();

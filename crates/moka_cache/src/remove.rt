@@ -1,5 +1,10 @@
 //! Removing a key, with its value.
-ghost use Rattle.std.specs.Prelude.{◌≡◌, Some, None};
+ghost use Rattle.std.specs.Prelude.{◌≡◌, Some, None, IfSome};
+ghost use Rattle.moka_cache.specs.Settings.{rules_of};
+ghost use Rattle.moka_cache.specs.Starts.{called};
+ghost use Rattle.moka_kept.specs.Taking.{NoAnswer};
+ghost use Rattle.moka_cache.specs.Asked.{Accords, Untested};
+ghost use Rattle.moka_cache.specs.Meets.{GivesSo, MeetsFact};
 ghost use Rattle.moka_hist.specs.declared.events.Start.TheVariants as Start;
 ghost use Rattle.moka_cache.specs.Suits.{Suits};
 ghost use Rattle.moka_cache.specs.Stages.{BeginsWith, MayPoll, value_in};
@@ -9,6 +14,7 @@ use crate::begin::{Begin, Begun};
 use crate::cache::Cache;
 use crate::call::CacheCall;
 use crate::get::value_in;
+use moka_facts::{Anything, Fact};
 use moka_hist::{Answer, Start};
 use moka_kept::{Listener, NoListener};
 use moka_room::FixedSeed;
@@ -22,7 +28,7 @@ pub struct ToRemove<'a, K> {
 }
 
 /// Takes a key out and gives its value, polled until that is logged, or the key known to be absent.
-pub type Remove<'a, K, V, E, L = NoListener, S = FixedSeed> = CacheCall<
+pub type Remove<'a, K, V, E, L = NoListener, S = FixedSeed, P = Anything> = CacheCall<
     'a,
     ToRemove<'a, K>,
     K,
@@ -31,6 +37,7 @@ pub type Remove<'a, K, V, E, L = NoListener, S = FixedSeed> = CacheCall<
     Nobody,
     L,
     S,
+    P,
 >;
 
 impl<K: Exact, V: Drop, E: Drop> Begin<K, V, E> for ToRemove<'_, K> {
@@ -56,19 +63,28 @@ impl<K: Exact, V: Drop, E: Drop> Begin<K, V, E> for ToRemove<'_, K> {
     }
 }
 
-impl<K, V, E, L, S> Cache<K, V, E, L, S>
+impl<K, V, E, L, S, P> Cache<K, V, E, L, S, P>
 where
     K: Eq + Hash + Exact,
     V: Exact,
     E: Exact,
     L: Listener<K, V>,
     S: BuildHasher + Drop,
+    P: Fact<K, V>,
 {
     /// Takes the key out. Answers the value that it had, or None where it is absent.
-    pub fn remove<'a>(&'a self, key: &'a K) -> Remove<'a, K, V, E, L, S>
+    pub fn remove<'a>(&'a self, key: &'a K) -> Remove<'a, K, V, E, L, S, P>
         ensures fresh { BeginsWith result.stage (λ remove. remove.key.now ≡ key.now) }
         ensures may { MayPoll result.stage }
         ensures suits { Suits K.eq (λ remove. Start.Remove remove.key.now) result.stage }
+        // What it stores, tells and answers meets the fact.
+        ensures so { MeetsFact K.eq P.holds (λ remove. None) NoAnswer Untested
+            (called (rules_of result.cache.now) (λ remove. Start.Remove remove.key.now))
+            result.stage result.named }
+        ensures gives { GivesSo K.eq P.holds (Accords NoAnswer Untested)
+            (rules_of result.cache.now) (λ remove. Start.Remove remove.key.now)
+            (λ remove. None) (λ named answer. Some (value_in answer)) result.stage result.named
+            (λ found. IfSome found (P.holds key.now)) }
         ensures cache { result.cache.now ≡ self.now }
     {
         self.call(ToRemove { key })

@@ -1,7 +1,12 @@
 //! How far a state is.
-ghost use Rattle.std.specs.Prelude.{◌≡◌};
+ghost use Rattle.std.specs.Prelude.{◌≡◌, OnOk};
+ghost use Rattle.futures.specs.Poll.{IfReady};
+ghost use Rattle.moka_init.specs.FlowPlan.{IsOver};
+ghost use Rattle.moka_cache.specs.Polled.{kept_as};
 ghost use Rattle.moka_cache.specs.Stages.{MayEnd};
 
+use crate::errors::PollError;
+use futures::task::Poll;
 use moka_hist::{
     Answer, Cause, CompResult, Entry, Id, IdList, Kind, Load, Mode, Rules, Sought, Stored, Write,
 };
@@ -81,6 +86,35 @@ pub(crate) fn put<A: Drop, K: Drop, V: Drop, E: Drop>(
     match mem::replace(stage, new) {
         Stage::Spent => {}
         _ => unreachable!(),
+    }
+}
+
+/// The state, for whose call no stage was made yet, is left by the first poll of that so: it has
+/// answered, or goes on as this flow.
+pub(crate) fn keep<A: Drop, K: Drop, V: Drop, E: Drop>(
+    stage: &mut Stage<A, K, V, E>,
+    flow: Live<K, V, E>,
+    poll: Poll<Result<Answer<K, V, E>, PollError>>,
+) -> Poll<Result<Answer<K, V, E>, PollError>>
+    requires spent { stage.old ≡ Stage.Spent }
+    requires over { IfReady poll (λ r. OnOk r (IsOver flow)) }
+    ensures poll { result ≡ poll }
+    ensures stage { stage.new ≡ kept_as flow poll }
+{
+    match poll {
+        Poll::Ready(Ok(answer)) => {
+            flow.end();
+            put(stage, Stage::Answered);
+            Poll::Ready(Ok(answer))
+        }
+        Poll::Ready(Err(e)) => {
+            put(stage, Stage::Running(flow));
+            Poll::Ready(Err(e))
+        }
+        Poll::Pending => {
+            put(stage, Stage::Running(flow));
+            Poll::Pending
+        }
     }
 }
 

@@ -1,5 +1,9 @@
 //! Computing what a key has, which may fail.
-ghost use Rattle.std.specs.Prelude.{◌≡◌, Some, None, IsSome};
+ghost use Rattle.std.specs.Prelude.{◌≡◌, Some, None, IsSome, IfOk, Ok};
+ghost use Rattle.moka_laws.specs.Given.{value_done};
+ghost use Rattle.moka_cache.specs.Asked.{Accords, Untested};
+ghost use Rattle.moka_cache.specs.Meets.{GivesSo, MeetsFact};
+ghost use Rattle.moka_hist.specs.declared.events.Op.TheVariants as op;
 ghost use Rattle.moka_hist.specs.declared.events.Start.TheVariants as Start;
 ghost use Rattle.moka_cache.specs.Computes.{GivesOp};
 ghost use Rattle.moka_cache.specs.Entries.{try_computed_in};
@@ -15,6 +19,7 @@ use crate::call::CacheCall;
 use crate::compute::Compute;
 use crate::entry::EntrySelector;
 use crate::key::CallKey;
+use moka_facts::{Anything, Fact};
 use moka_hist::{Answer, CompResult, Start};
 use moka_kept::{Listener, NoListener};
 use moka_room::FixedSeed;
@@ -90,7 +95,7 @@ impl<K: Exact, V: Drop, E: Drop> Begin<K, V, E> for ToComputeAlone<'_, K> {
 }
 
 /// Asks what is to be done with a key, and does it, polled until that is logged, or failed.
-pub type TryComputeWith<'a, K, V, E, C, L = NoListener, S = FixedSeed> = CacheCall<
+pub type TryComputeWith<'a, K, V, E, C, L = NoListener, S = FixedSeed, P = Anything> = CacheCall<
     'a,
     ToTryCompute<'a, K>,
     K,
@@ -99,11 +104,12 @@ pub type TryComputeWith<'a, K, V, E, C, L = NoListener, S = FixedSeed> = CacheCa
     ByCompute<C>,
     L,
     S,
+    P,
 >;
 
 /// Asks what is to be done with a key, and does it, where no other compute of the key goes; polled
 /// until that is logged, or failed.
-pub type TryComputeAlone<'a, K, V, E, C, L = NoListener, S = FixedSeed> = CacheCall<
+pub type TryComputeAlone<'a, K, V, E, C, L = NoListener, S = FixedSeed, P = Anything> = CacheCall<
     'a,
     ToComputeAlone<'a, K>,
     K,
@@ -112,28 +118,41 @@ pub type TryComputeAlone<'a, K, V, E, C, L = NoListener, S = FixedSeed> = CacheC
     ByCompute<C>,
     L,
     S,
+    P,
 >;
 
-impl<'a, K, V, E, L, S> EntrySelector<'a, K, V, E, L, S>
+impl<'a, K, V, E, L, S, P> EntrySelector<'a, K, V, E, L, S, P>
 where
     K: Eq + Hash + Exact,
     V: Exact,
     E: Exact,
     L: Listener<K, V>,
     S: BuildHasher + Drop,
+    P: Fact<K, V>,
 {
     /// Computes, as `and_compute_with` does. Where the compute gives an error, the call answers
     /// that, and what the key has stays.
     pub fn and_try_compute_with<C: Compute<K, V, E>>(
         self,
         compute: C,
-    ) -> TryComputeWith<'a, K, V, E, C, L, S>
+    ) -> TryComputeWith<'a, K, V, E, C, L, S, P>
+        requires fact { (value : V) → C.gives compute (Ok (op.Put value)) → P.holds
+            (key_of self.key) value }
         ensures fresh { BeginsWith result.stage (λ begin. begin.key ≡ self.entry.key) }
         ensures may { MayPoll result.stage }
         ensures compute { result.asked.stage ≡ ComputeStage.Fresh compute }
         ensures tells { Tells K.eq (GivesOp C.gives result.asked) (called
             (rules_of result.cache.now) (λ begin. Start.TryCompute (key_of begin.key)))
             (λ named answer. try_computed_in answer) result.stage }
+        // What it stores, tells and answers meets the fact.
+        ensures so { MeetsFact K.eq P.holds (λ begin. None) (GivesOp C.gives result.asked) Untested
+            (called (rules_of result.cache.now) (λ begin. Start.TryCompute (key_of begin.key)))
+            result.stage result.named }
+        ensures gives { GivesSo K.eq P.holds (Accords (GivesOp C.gives result.asked) Untested)
+            (rules_of result.cache.now) (λ begin. Start.TryCompute (key_of begin.key))
+            (λ begin. None) (λ named answer. try_computed_in answer) result.stage result.named
+            (λ told. IfOk told (λ done. (value : V) → value_done done ≡ Some value → P.holds
+            (key_of self.entry.key) value)) }
         ensures cache { result.cache.now ≡ self.entry.cache.now }
     {
         moka_shapes::computes_tell::<K, V, E>();
@@ -147,13 +166,24 @@ where
     pub fn and_try_compute_if_nobody_else<C: Compute<K, V, E>>(
         self,
         compute: C,
-    ) -> TryComputeAlone<'a, K, V, E, C, L, S>
+    ) -> TryComputeAlone<'a, K, V, E, C, L, S, P>
+        requires fact { (value : V) → C.gives compute (Ok (op.Put value)) → P.holds
+            (key_of self.key) value }
         ensures fresh { BeginsWith result.stage (λ begin. begin.key ≡ self.entry.key) }
         ensures may { MayPoll result.stage }
         ensures compute { result.asked.stage ≡ ComputeStage.Fresh compute }
         ensures tells { Tells K.eq (GivesOp C.gives result.asked) (called
             (rules_of result.cache.now) (λ begin. Start.ComputeAlone (key_of begin.key)))
             (λ named answer. try_computed_in answer) result.stage }
+        // What it stores, tells and answers meets the fact.
+        ensures so { MeetsFact K.eq P.holds (λ begin. None) (GivesOp C.gives result.asked) Untested
+            (called (rules_of result.cache.now) (λ begin. Start.ComputeAlone (key_of begin.key)))
+            result.stage result.named }
+        ensures gives { GivesSo K.eq P.holds (Accords (GivesOp C.gives result.asked) Untested)
+            (rules_of result.cache.now) (λ begin. Start.ComputeAlone (key_of begin.key))
+            (λ begin. None) (λ named answer. try_computed_in answer) result.stage result.named
+            (λ told. IfOk told (λ done. (value : V) → value_done done ≡ Some value → P.holds
+            (key_of self.entry.key) value)) }
         ensures cache { result.cache.now ≡ self.entry.cache.now }
     {
         moka_shapes::computes_tell::<K, V, E>();

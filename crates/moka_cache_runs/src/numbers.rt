@@ -9,7 +9,7 @@ ghost use Rattle.moka_cache_runs.specs.Runs.{CanRun};
 
 use crate::caches::HearsAny;
 use futures::task::{Context, Poll};
-use moka_cache::{Asked, Begin, CacheCall, FixedSeed, NoListener, PollError, State};
+use moka_cache::{Anything, Asked, Begin, CacheCall, FixedSeed, NoListener, PollError, State};
 use std::hash::BuildHasher;
 use std::sync::Wait;
 
@@ -19,7 +19,7 @@ pub struct NumberCall<'a, A, Q, L = NoListener, S: BuildHasher = FixedSeed> {
 }
 
 /// The call as a state, where it may be run.
-pub fn numbers<'a, A: Begin<u32, u32, u32>, Q: Asked<u32, u32, u32>, L, S: BuildHasher>(
+pub fn numbers<'a, A: Begin<u32, u32, u32>, Q: Asked<u32, u32, u32, Anything>, L, S: BuildHasher>(
     call: CacheCall<'a, A, u32, u32, u32, Q, L, S>,
 ) -> NumberCall<'a, A, Q, L, S>
     requires can { CanRun nat_eq A.start A.output Q.can_poll Q.gives (rules_of call.cache.now)
@@ -34,7 +34,7 @@ impl<R, A, Q, L, S> State<R> for NumberCall<'_, A, Q, L, S>
 where
     R: Wait,
     A: Begin<u32, u32, u32>,
-    Q: Asked<u32, u32, u32>,
+    Q: Asked<u32, u32, u32, Anything>,
     L: HearsAny,
     S: BuildHasher + Drop,
 {

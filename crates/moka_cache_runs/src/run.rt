@@ -5,7 +5,7 @@
 ghost use Rattle.moka_cache.specs.Settings.{rules_of};
 ghost use Rattle.moka_cache_runs.specs.Runs.{CanRun};
 
-use moka_cache::{Asked, Begin, CacheCall, Listener};
+use moka_cache::{Anything, Asked, Begin, CacheCall, Listener};
 use moka_values::Exact;
 use std::alloc::AllocGlobal;
 use std::hash::{BuildHasher, Hash};
@@ -24,7 +24,7 @@ where
     K: Eq + Hash + Exact,
     V: Exact,
     E: Exact,
-    Q: Asked<K, V, E>,
+    Q: Asked<K, V, E, Anything>,
     L: Listener<K, V>,
     S: BuildHasher + Drop,
     requires can { CanRun K.eq A.start A.output Q.can_poll Q.gives (rules_of call.cache.now)

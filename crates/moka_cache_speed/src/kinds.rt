@@ -7,8 +7,9 @@ use crate::rounds::{Optional, Rounds, Tried};
 use crate::runs::{Span, finish_both, make_alone, run};
 use crate::ways::{Kind, Way};
 use moka_cache::{
-    Asked, Begin, ByCompute, ByInit, ByOptionalInit, ByTryInit, ByUpsert, Nobody, ToCompute, ToGet,
-    ToInsert, ToInsertEntry, ToLoad, ToLoadOptionally, ToRemove, ToTryCompute, ToTryLoad, ToUpsert,
+    Anything, Asked, Begin, ByCompute, ByInit, ByOptionalInit, ByTryInit, ByUpsert, Nobody,
+    ToCompute, ToGet, ToInsert, ToInsertEntry, ToLoad, ToLoadOptionally, ToRemove, ToTryCompute,
+    ToTryLoad, ToUpsert,
 };
 use std::alloc::AllocGlobal;
 use std::io;
@@ -59,7 +60,7 @@ fn make_so<'a, R, A, Q, L>(rt: &R, rounds: &Rounds<'a, L>, way: Way, span: Span)
 where
     R: Wait + RandomSource + AllocGlobal,
     A: Begin<u64, u64, u64, Output: Drop>,
-    Q: Asked<u64, u64, u64>,
+    Q: Asked<u64, u64, u64, Anything>,
     L: HearsAny,
     Rounds<'a, L>: Makes<'a, A, Q, L>,
 {

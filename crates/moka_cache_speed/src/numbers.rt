@@ -10,7 +10,7 @@ ghost use Rattle.moka_cache.specs.declared.stage.Stage.TheVariants as Stage;
 
 use crate::heard::HearsAny;
 use futures::task::{Context, Poll};
-use moka_cache::{Asked, Begin, Cache, CacheCall, PollError, State};
+use moka_cache::{Anything, Asked, Begin, Cache, CacheCall, PollError, State};
 use std::sync::Wait;
 
 /// A cache of numbers, with this listener or without one.
@@ -20,7 +20,7 @@ pub(crate) type Numbers<L> = Cache<u64, u64, u64, L>;
 pub(crate) type Call<'a, A, Q, L> = CacheCall<'a, A, u64, u64, u64, Q, L>;
 
 /// Where calls of such a cache come from.
-pub(crate) trait Makes<'a, A: Begin<u64, u64, u64>, Q: Asked<u64, u64, u64>, L> {
+pub(crate) trait Makes<'a, A: Begin<u64, u64, u64>, Q: Asked<u64, u64, u64, Anything>, L> {
     /// The call of this round, which may be run.
     fn make(&self, round: u64) -> Call<'a, A, Q, L>
         ensures may { MayPoll result.stage }
@@ -35,7 +35,7 @@ pub(crate) struct NumberCall<'a, A, Q, L> {
 }
 
 /// The call as a state, where it may be run.
-pub(crate) fn numbers<'a, A: Begin<u64, u64, u64>, Q: Asked<u64, u64, u64>, L>(
+pub(crate) fn numbers<'a, A: Begin<u64, u64, u64>, Q: Asked<u64, u64, u64, Anything>, L>(
     call: Call<'a, A, Q, L>,
 ) -> NumberCall<'a, A, Q, L>
     requires may { MayPoll call.stage }
@@ -54,7 +54,7 @@ impl<R, A, Q, L> State<R> for NumberCall<'_, A, Q, L>
 where
     R: Wait,
     A: Begin<u64, u64, u64>,
-    Q: Asked<u64, u64, u64>,
+    Q: Asked<u64, u64, u64, Anything>,
     L: HearsAny,
 {
     type Output = A::Output;

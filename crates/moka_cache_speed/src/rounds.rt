@@ -6,8 +6,9 @@ use crate::later::{Later, MayFail, Puts};
 use crate::numbers::{Call, Makes, NumberCall, Numbers, numbers};
 use crate::ways::{Kind, Way};
 use moka_cache::{
-    Asked, Begin, ByCompute, ByInit, ByOptionalInit, ByTryInit, ByUpsert, Nobody, ToCompute, ToGet,
-    ToInsert, ToInsertEntry, ToLoad, ToLoadOptionally, ToRemove, ToTryCompute, ToTryLoad, ToUpsert,
+    Anything, Asked, Begin, ByCompute, ByInit, ByOptionalInit, ByTryInit, ByUpsert, Nobody,
+    ToCompute, ToGet, ToInsert, ToInsertEntry, ToLoad, ToLoadOptionally, ToRemove, ToTryCompute,
+    ToTryLoad, ToUpsert,
 };
 use std::sync::Wait;
 
@@ -118,7 +119,7 @@ impl<'a, R, A, Q, L> Begins<R, NumberCall<'a, A, Q, L>> for Rounds<'a, L>
 where
     R: Wait,
     A: Begin<u64, u64, u64>,
-    Q: Asked<u64, u64, u64>,
+    Q: Asked<u64, u64, u64, Anything>,
     L: HearsAny,
     Rounds<'a, L>: Makes<'a, A, Q, L>,
 {

@@ -1,7 +1,7 @@
 //! Computes by closures of each kind.
 
 use crate::answers::Runtime;
-use futures::future::{lazy, ready};
+use futures::future::ready;
 use moka_cache::{Cache, op_by, try_op_by};
 use moka_hist::{CompResult, Entry, Op};
 use std::alloc::Global;
@@ -43,10 +43,7 @@ fn word(done: &CompResult<u32, u64>) -> &'static str {
 
 /// Takes one of article 1, if there is one.
 fn take<R: Runtime>(rt: &R, stock: &Stock) -> io::Result<&'static str> {
-    let take = op_by(|found: Found<'_>| {
-        let op = less(found);
-        lazy(move |_| op)
-    });
+    let take = op_by(|found: Found<'_>| ready(less(found)));
     let done = stock.entry(1).and_compute_with(take).block_on(rt, 0)?;
     Ok(word(&done))
 }

@@ -7,11 +7,13 @@ mod computes;
 mod counter;
 mod first;
 mod heard;
+mod letters;
 mod loads;
 mod memo;
 mod own;
 mod pages;
 mod settings;
+mod shares;
 mod sources;
 
 use crate::answers::Runtime;
@@ -30,6 +32,8 @@ fn show_all<R: Runtime>(rt: &R, alloc: Global) -> io::Result<()> {
     pages::show(rt, alloc)?;
     counter::show(rt, alloc)?;
     heard::show(rt, alloc)?;
+    shares::show(rt, alloc)?;
+    letters::show(rt, alloc)?;
     cancelled::show(rt, alloc)?;
     loads::show(rt, alloc)?;
     computes::show(rt, alloc)?;

@@ -1,5 +1,5 @@
 -- What the conditions of visits say of what is kept.
-use Rattle.std.proofs.Common.{◌≡◌, ◌≢◌, ℕ, ◌==◌, Bool, true, false, cond, Option, Some, None, IsSome, IsNone, is_some, IfSome, refl, sym, subst}
+use Rattle.std.proofs.Common.{◌≡◌, ◌≢◌, ℕ, ◌==◌, Bool, true, false, Option, Some, None, IsSome, IsNone, IfSome, refl, sym, subst}
 use Rattle.std.specs.Option.{IsSomeAnd, option_map, option_map_or}
 use Rattle.std.proofs.lemmas.Bool.{eqb-true, eqb-false}
 use Rattle.moka_hist.specs.Conditions.{IsPlaceOf, MayLeaveWith}
@@ -13,7 +13,6 @@ use Rattle.moka_hist.specs.declared.writes.Holding.TheVariants as holding
 use Rattle.moka_hist.specs.declared.writes.Owed.{Owed}
 use Rattle.moka_hist.specs.declared.writes.Write.{Write}
 use Rattle.moka_desk.specs.Held.{holds_number}
-use Rattle.moka_desk.specs.Notices.{if_running}
 use Rattle.moka_hist.proofs.Owners.{Owns}
 
 itself : (n : ℕ) → (n == n) ≡ true
@@ -71,15 +70,3 @@ running_may_end (Some x) is = by x.state is where
   by state.Running e = refl
   by state.Ended e = refl
   by state.Skipped e = e
-
--- a notice runs where it stands among those that do
-pub runs_where_kept : {K V A : Type 0} (f : A → Notice K V) (m : Option A) (o : Option (Notice K V)) → option_map f m ≡ if_running o →
-    is_some m ≡ option_map_or (λ x. runs x.state) o false
-runs_where_kept f None None e = refl
-runs_where_kept f (Some a) None e = cc
-runs_where_kept {A = A} f m (Some x) e = by m (runs x.state) e where
-  by : (m : Option A) (b : Bool) → option_map f m ≡ cond b (Some x) None → is_some m ≡ b
-  by None true e = cc
-  by None false e = refl
-  by (Some a) true e = refl
-  by (Some a) false e = cc

@@ -12,13 +12,11 @@ use Rattle.moka_hist.specs.Finite.{put_at}
 use Rattle.moka_hist.specs.State.{DeskPart}
 use Rattle.moka_hist.specs.Visits.{is_running, runs}
 use Rattle.moka_hist.proofs.Owners.{is_none_of}
-use Rattle.moka_desk.specs.Notices.{running}
 use Rattle.moka_desk.specs.Past.{AllowsAlike}
 use Rattle.moka_desk.specs.StandsFor.{StandsFor}
 use Rattle.moka_desk.specs.Writes.{ForgetsIn, write_part}
 use Rattle.moka_desk.specs.declared.state.Desk.{Desk}
-use Rattle.moka_desk.proofs.Allowed.{runs_where_kept}
-use Rattle.moka_desk.proofs.Noticed.{unopened_past, unopened_running}
+use Rattle.moka_desk.proofs.Noticed.{unopened_heard, unopened_past, unopened_runs}
 use Rattle.moka_desk.proofs.Sounding.{sound_apart, sound_holder, sound_once}
 
 module _ {K V E S H : Type 0} {same : PartialEq.Ghosts K} {hash : Hash.Ghosts K} {build : BuildHasher.Ghosts S H} {hasher : Hasher.Ghosts H} (eq : K → K → Bool) (desk : Desk K V E S H same hash build hasher) (w : DeskPart K V E) (h : StandsFor eq desk w) where
@@ -83,7 +81,8 @@ module _ {K V E S H : Type 0} {same : PartialEq.Ghosts K} {hash : Hash.Ghosts K}
       loads = h.loads;
       locks = h.locks;
       notices = record {
-        running = unopened_running (get nat_eq desk.notices.running) w.notices h.notices.running call (is_none_of _ quiet);
+        running = unopened_runs (get nat_eq desk.notices.running) w.notices call h.notices.running (is_none_of _ quiet);
+        heard = λ whole. unopened_heard (get nat_eq desk.notices.running) w.notices call (h.notices.heard whole) (is_none_of _ quiet);
         past = λ whole. unopened_past (get nat_eq desk.notices.past) w.notices (h.notices.past whole) call (is_none_of _ (over whole));
         opened = h.notices.opened;
         off = h.notices.off;
@@ -116,7 +115,7 @@ module _ {K V E S H : Type 0} {same : PartialEq.Ghosts K} {hash : Hash.Ghosts K}
     still n true e is =
         let no : false ≡ true =
         sym quiet ∙ ap (λ m. is_some (get nat_eq desk.notices.running m)) (eqb-true call n e)
-        ∙ runs_where_kept (running n) (get nat_eq desk.notices.running n) (w.notices n) (h.notices.running n) ∙ is in
+        ∙ h.notices.running n ∙ is in
         cc
     still n false e is = is
 

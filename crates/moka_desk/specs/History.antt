@@ -18,6 +18,10 @@ module _ {K V E S H : Type 0} {same : PartialEq.Ghosts K} {hash : Hash.Ghosts K}
   abbrev pub keeps_history : Desk K V E S H same hash build hasher → Bool
   keeps_history desk = desk.writes.applied.history && (desk.notices.history && desk.moments)
 
+  -- it is kept what the listener hears by notices
+  abbrev pub keeps_heard : Desk K V E S H same hash build hasher → Bool
+  keeps_heard desk = desk.notices.history
+
   -- each of these is kept, or none is
   abbrev pub KeepsAll : Bool → Desk K V E S H same hash build hasher → Type 0
   KeepsAll history desk =

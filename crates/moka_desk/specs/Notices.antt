@@ -1,5 +1,5 @@
 -- What the kept notices stand for.
-use Rattle.std.specs.Prelude.{◌≡◌, ◌<◌, ℕ, Bool, true, false, cond, List, Option, Some, None, nat_eq, vec_capacity, vec_len}
+use Rattle.std.specs.Prelude.{◌≡◌, ◌<◌, ℕ, Bool, true, false, cond, List, Option, Some, None, is_some, nat_eq, vec_capacity, vec_len}
 use Rattle.std.specs.Option.{option_map, option_map_or}
 use Rattle.std.specs.HashMap.{get, hash_map_len, spare}
 use Rattle.moka_hist.specs.State.{DeskPart}
@@ -19,6 +19,11 @@ pub record NoticePart (K V : Type 0) : Type 0 where
 abbrev pub notice_part : {K V E : Type 0} → DeskPart K V E → NoticePart K V
 notice_part w = record { notices = w.notices; opened = w.opened; off = w.off }
 
+-- what is kept, where something stands and it is
+abbrev pub kept_in : {A : Type 0} → Option (Option A) → Option A
+kept_in (Some kept) = kept
+kept_in None = None
+
 module _ {K V : Type 0} where
   -- the running notice of this number by which the listener hears this
   abbrev pub running : ℕ → Heard K V → Notice K V
@@ -30,6 +35,14 @@ module _ {K V : Type 0} where
         cause = heard.cause;
         state = state.Running;
       }
+
+  -- the running notice of this number by what is kept of it, if something is
+  abbrev pub heard_in : ℕ → Option (Option (Heard K V)) → Option (Notice K V)
+  heard_in number kept = option_map (running number) (kept_in kept)
+
+  -- the notice runs, if there is one
+  abbrev pub runs_in : Option (Notice K V) → Bool
+  runs_in o = option_map_or (λ x. runs x.state) o false
 
   -- the notice, where it runs, and where it doesn't
   abbrev pub if_running : Option (Notice K V) → Option (Notice K V)
@@ -43,10 +56,11 @@ abbrev pub either : {A : Type 0} → Option A → Option A → Option A
 either (Some x) other = Some x
 either None other = other
 
--- The notices that run stand in one map. With a history the others stand in the other, and their
--- numbers are listed.
+-- The notices that run stand in one map. With a history it is kept there what the listener hears by
+-- them, the others stand in the other map, and the numbers of all are listed.
 pub record NoticesAre {K V : Type 0} (notices : Notices K V) (p : NoticePart K V) : Type 0 where
-  pub running : (n : ℕ) → option_map (running n) (get nat_eq notices.running n) ≡
+  pub running : (n : ℕ) → is_some (get nat_eq notices.running n) ≡ runs_in (p.notices n)
+  pub heard : notices.history ≡ true → (n : ℕ) → heard_in n (get nat_eq notices.running n) ≡
       if_running (p.notices n)
   pub past : notices.history ≡ true → (n : ℕ) → get nat_eq notices.past n ≡ if_past (p.notices n)
   pub opened : notices.history ≡ true → notices.opened.items ≡ p.opened

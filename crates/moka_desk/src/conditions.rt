@@ -1,6 +1,6 @@
 //! The conditions of visits, tested.
 
-ghost use Rattle.std.specs.Prelude.{◌≡◌, ◌||◌, true, false, Some, None, IsTrue, IsSome, IsNone, IsSomeAnd, ◌↔◌};
+ghost use Rattle.std.specs.Prelude.{◌≡◌, ◌||◌, true, false, Some, None, IsTrue, IsSome, IsNone, IsSomeAnd, ◌↔◌, is_some, nat_lt};
 
 use crate::Desk;
 use crate::maps::has_at;
@@ -83,6 +83,29 @@ impl<K: Eq + Hash + Exact, V: Drop, E: Drop, S: BuildHasher + Drop> Desk<K, V, E
             Some(with) => Self::may_end_so(kind, with),
             None => true,
         }
+    }
+
+    /// The owner that the call waits for, if it waits for one, ended or not.
+    pub fn waits_for(&self, call: u64) -> Option<u64>
+        ensures { (w : DeskPart K V E) → StandsFor K.eq self.now w → result ≡ w.joined call }
+    {
+        self.loads.joined.get(&call).copied()
+    }
+
+    /// Whether some call waits for the end of the load that this one owns.
+    pub fn is_awaited(&self, call: u64) -> bool
+        ensures { (w : DeskPart K V E) → StandsFor K.eq self.now w
+            → result ≡ nat_lt 0 (w.readers call) }
+    {
+        self.loads.readers_of(call) > 0
+    }
+
+    /// Whether how this owner ended is kept, since some call has still to read it.
+    pub fn keeps_end(&self, owner: u64) -> bool
+        ensures { (w : DeskPart K V E) → StandsFor K.eq self.now w
+            → result ≡ is_some (w.settled owner) }
+    {
+        self.loads.settled.contains_key(&owner)
     }
 
     /// Whether the desk allows the call to leave this write to others, if any.

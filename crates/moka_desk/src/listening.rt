@@ -2,6 +2,7 @@
 
 ghost use Rattle.std.specs.Prelude.{◌≡◌, ◌≢◌, ℕ, true, false, cond, Some, None, IfOk, OnOk, OnErr};
 ghost use Rattle.std.specs.Bool.{OnTrue, OnFalse};
+ghost use Rattle.std.specs.HashMap.{spare};
 ghost use Rattle.moka_sync.specs.Waiting.{waits};
 
 use crate::Desk;
@@ -23,7 +24,7 @@ impl<K: Eq + Hash + Exact, V: Drop, E: Drop, S: BuildHasher + Drop> Desk<K, V, E
     ghost use Rattle.moka_desk.specs.Waits.{comes, ended_line, is_keeper, leaves, lock_line, notice_line, stays, waits_at, EndedMove, LocksMove, NoticesMove, NobodyMoves};
     ghost use Rattle.moka_desk.specs.WakeList.{EndedWake, LocksWake, NobodyWakes, NoticesWake};
     ghost use Rattle.moka_desk.specs.Woken.{all_but, and_calls};
-    ghost use Rattle.moka_desk.specs.History.{KeepsAsBefore};
+    ghost use Rattle.moka_desk.specs.History.{KeepsAsBefore, keeps_heard};
     ghost use Rattle.moka_desk.specs.Locks.{holder_of};
     ghost use Rattle.moka_desk.specs.StandsFor.{StandsFor, Can, Finds, Makes, Stays};
     ghost use Rattle.moka_desk.specs.ListedMiss.{MissAfter, MissWith};
@@ -136,6 +137,46 @@ impl<K: Eq + Hash + Exact, V: Drop, E: Drop, S: BuildHasher + Drop> Desk<K, V, E
     {
         let cause = self.cause_of(stamp, modified, cause, upsert);
         let asked = self.notices.open(call, Heard { key, value, cause })?;
+        self.writes.decide(call);
+        Ok(asked.then_some(cause))
+    }
+
+    /// Whether it is kept what the listener hears by notices: where there is a history.
+    pub fn keeps_heard(&self) -> bool
+        ensures { result ≡ keeps_heard self.now }
+    {
+        self.notices.history
+    }
+
+    /// Opens the notice of the call's number, as `open_notice` does, where it isn't kept what the
+    /// listener hears by it: whatever the key and the value are, neither is needed. Memory is
+    /// wanting only where no place is left of those that were taken with the moments of writes.
+    #[cold]
+    #[inline(never)]
+    pub fn open_unheard(
+        &mut self,
+        call: u64,
+        stamp: u64,
+        modified: u64,
+        cause: Option<Cause>,
+        upsert: bool,
+    ) -> Result<Option<Cause>, AllocError>
+        requires { keeps_heard self.old ≡ false }
+        ensures finds { IfOk result (λ told. (key : K) (value : V) → Finds K.eq self.old
+            (visit.OpenNotice call key value stamp modified cause upsert) (found.OpenNotice told)) }
+        ensures makes { OnOk result ((key : K) (value : V) → Makes K.eq self.old
+            (visit.OpenNotice call key value stamp modified cause upsert) self.new) }
+        ensures err { OnErr result (Stays K.eq self.old self.new) }
+        ensures quiet { NobodyMoves self.old self.new }
+        ensures wakes { NobodyWakes self.old self.new }
+        ensures misses { OnOk result ((key : K) (value : V) → MissAfter K.eq self.old
+            (visit.OpenNotice call key value stamp modified cause upsert) self.new) }
+        ensures misses_still { OnErr result (MissWith K.eq self.old (λ w. w) self.new) }
+        ensures needs_place { OnErr result (spare self.old.notices.running ≡ 0) }
+        ensures kept { KeepsAsBefore self.old self.new }
+    {
+        let cause = self.cause_of(stamp, modified, cause, upsert);
+        let asked = self.notices.open_unheard(call)?;
         self.writes.decide(call);
         Ok(asked.then_some(cause))
     }

@@ -273,8 +273,8 @@ impl<K: Eq + Hash + Exact, V: Drop, E: Drop, S: BuildHasher> Loads<K, V, E, S> {
         }
     }
 
-    // How many wait for the owner: no more than the entries of a map.
-    fn readers_of(&self, owner: u64) -> u64
+    /// How many wait for the owner: no more than the entries of a map.
+    pub(crate) fn readers_of(&self, owner: u64) -> u64
         ensures value { result ≡ unwrap_or (get nat_eq self.now.readers owner) 0 }
         ensures small { result < 2 ^ 63 }
     {

@@ -1,6 +1,6 @@
 //! The notices to the listener.
 
-ghost use Rattle.std.specs.Prelude.{◌≡◌, ℕ, ◌+◌, ◌≤◌, ◌<◌, ◌==◌, ◌||◌, true, false, not, cond, Option, Some, None, [], ◌∷◌, ◌++◌, is_some, IsNone, IsSome, IsTrue, IsFalse, ◌↔◌, nat_eq, vec_len, vec_capacity, OnOk, OnErr, IfOk, if◌then◌else◌};
+ghost use Rattle.std.specs.Prelude.{◌≡◌, ℕ, ◌+◌, ◌≤◌, ◌<◌, ◌==◌, ◌||◌, true, false, not, cond, Option, Some, None, [], ◌∷◌, ◌++◌, is_some, IfSome, IsNone, IsSome, IsTrue, IsFalse, ◌↔◌, nat_eq, vec_len, vec_capacity, OnOk, OnErr, IfOk, if◌then◌else◌};
 ghost use Rattle.std.specs.HashMap.{get, hash_map_len, spare};
 
 use crate::maps::put;
@@ -19,13 +19,14 @@ pub(crate) struct Heard<K, V> {
     pub(crate) cause: Cause,
 }
 
-/// The running notices by their numbers; with a history those that have ended or were skipped,
-/// among which no visit looks, and the order in which all were opened. Each running notice has its
-/// place among those of the past then. Beside them, whether the listener is off.
+/// The running notices by their numbers; with a history what the listener hears by them, those that
+/// have ended or were skipped, among which no visit looks, and the order in which all were opened.
+/// Each running notice has its place among those of the past then. Beside them, whether the listener
+/// is off.
 #[derive(Drop)]
 pub(crate) struct Notices<K, V> {
     pub(crate) history: bool,
-    pub(crate) running: HashMap<u64, Heard<K, V>>,
+    pub(crate) running: HashMap<u64, Option<Heard<K, V>>>,
     pub(crate) past: HashMap<u64, Notice<K, V>>,
     pub(crate) opened: Vec<u64>,
     pub(crate) off: bool,
@@ -36,8 +37,8 @@ impl<K: Drop, V: Drop> Notices<K, V> {
     ghost use Rattle.moka_hist.specs.Finite.{put_at};
     ghost use Rattle.moka_hist.specs.Telling.{with_end, MayEnd};
     ghost use Rattle.moka_hist.specs.declared.notices.NoticeState.TheVariants as notice;
-    ghost use Rattle.std.specs.Option.{option_map};
-    ghost use Rattle.moka_desk.specs.Notices.{either, running, HasRoom, NoticePart, NoticesAre, NoticesBecome};
+    ghost use Rattle.std.specs.Option.{option_copied, option_map};
+    ghost use Rattle.moka_desk.specs.Notices.{either, heard_in, kept_in, HasRoom, NoticePart, NoticesAre, NoticesBecome};
 
     /// No notice was opened, and the listener is not off; with a history, or without one.
     pub(crate) fn new(alloc: Global, history: bool) -> Self
@@ -81,21 +82,43 @@ impl<K: Drop, V: Drop> Notices<K, V> {
         }
     }
 
-    /// The notice of this number, if one was opened.
+    /// The notice of this number, if one was opened and it is kept what the listener heard by it.
     pub(crate) fn notice(&self, number: u64) -> Result<Option<Notice<K, V>>, AllocError>
     where
         K: Exact,
         V: Exact,
         ensures { IfOk result (λ notice. notice ≡ either
-            (option_map (running number) (get nat_eq self.now.running number))
+            (heard_in number (get nat_eq self.now.running number))
             (get nat_eq self.now.past number)) }
     {
-        if let Some(heard) = self.running.get(&number) {
+        if let Some(heard) = self.heard_at(number) {
             return Ok(Some(heard.notice(number)?));
         }
         match self.past.get(&number) {
             Some(notice) => Ok(Some(copy_of(notice)?)),
             None => Ok(None),
+        }
+    }
+
+    // What the listener hears by the notice of this number, where that runs and it is kept.
+    fn heard_at(&self, number: u64) -> Option<&Heard<K, V>>
+        ensures { option_copied result ≡ kept_in (get nat_eq self.now.running number) }
+    {
+        match self.running.get(&number) {
+            Some(heard) => heard.as_ref(),
+            None => None,
+        }
+    }
+
+    /// Takes places for the notices of so many calls, if there is a listener.
+    pub(crate) fn reserve(&mut self, listener: bool, calls: usize) -> Result<(), AllocError>
+        ensures same { NoticesBecome self.old (λ p. p) self.new }
+        ensures places { OnOk result (listener ≡ true → calls ≤ spare self.new.running) }
+        ensures kind { self.new.history ≡ self.old.history }
+    {
+        match listener {
+            true => map_room::reserve(&mut self.running, calls),
+            false => Ok(()),
         }
     }
 
@@ -124,7 +147,47 @@ impl<K: Drop, V: Drop> Notices<K, V> {
             self.keep(number, heard, NoticeState::Skipped);
             return Ok(false);
         }
-        put(&mut self.running, number, heard);
+        let kept = self.if_kept(heard);
+        put(&mut self.running, number, kept);
+        Ok(true)
+    }
+
+    // What is kept of what the listener hears: all of it, where there is a history.
+    fn if_kept(&self, heard: Heard<K, V>) -> Option<Heard<K, V>>
+        ensures { result ≡ cond self.now.history (Some heard) None }
+    {
+        match self.history {
+            true => Some(heard),
+            false => None,
+        }
+    }
+
+    /// Opens a notice as `open` does, whatever the listener hears by it, where there is no history.
+    /// Memory is wanting only where no place was taken for it.
+    pub(crate) fn open_unheard(&mut self, number: u64) -> Result<bool, AllocError>
+        requires { self.old.history ≡ false }
+        ensures asked { IfOk result (λ asked. asked ≡ not self.old.off) }
+        ensures ok { OnOk result ((heard : Heard K V) (p : NoticePart K V) → NoticesAre self.old p
+            → p.notices number ≡ None
+            → NoticesAre self.new (record p {
+              notices = put_at p.notices number (Some (record {
+                number = number;
+                key = heard.key;
+                value = heard.value;
+                cause = heard.cause;
+                state = cond p.off notice.Skipped notice.Running;
+              }));
+              opened = p.opened ++ number ∷ [];
+            })) }
+        ensures err { OnErr result (NoticesBecome self.old (λ p. p) self.new) }
+        ensures needs { OnErr result (spare self.old.running ≡ 0) }
+        ensures kind { self.new.history ≡ self.old.history }
+    {
+        if self.off {
+            return Ok(false);
+        }
+        self.running.reserve(1)?;
+        put(&mut self.running, number, None);
         Ok(true)
     }
 
@@ -170,6 +233,28 @@ impl<K: Drop, V: Drop> Notices<K, V> {
         }
     }
 
+    // Keeps a notice that has ended, of which this was kept, where there is a history.
+    fn keep_ended(&mut self, number: u64, heard: Option<Heard<K, V>>)
+        requires { self.old.history ≡ true → hash_map_len self.old.running < spare self.old.past }
+        ensures past { self.new.history ≡ true → IfSome heard (λ h. (n : ℕ)
+            → get nat_eq self.new.past n ≡ cond (number == n) (Some (record {
+              number = number;
+              key = h.key;
+              value = h.value;
+              cause = h.cause;
+              state = notice.Ended;
+            })) (get nat_eq self.old.past n)) }
+        ensures running { self.new.running ≡ self.old.running }
+        ensures opened { self.new.opened ≡ self.old.opened }
+        ensures off { self.new.off ≡ self.old.off }
+        ensures kind { self.new.history ≡ self.old.history }
+    {
+        match heard {
+            Some(heard) => self.keep(number, heard, NoticeState::Ended),
+            None => {}
+        }
+    }
+
     // Keeps a notice that has ended or was skipped, where there is a history.
     fn keep(&mut self, number: u64, heard: Heard<K, V>, state: NoticeState)
         requires { self.old.history ≡ true → hash_map_len self.old.running < spare self.old.past }
@@ -202,7 +287,7 @@ impl<K: Drop, V: Drop> Notices<K, V> {
     {
         self.silence(off);
         if let Some(heard) = self.running.remove(&number) {
-            self.keep(number, heard, NoticeState::Ended);
+            self.keep_ended(number, heard);
         }
     }
 

@@ -81,7 +81,6 @@ impl<K: Eq + Hash + Exact, V: Drop, E: Drop> Desk<K, V, E> {
 impl<K: Eq + Hash + Exact, V: Drop, E: Drop, S: BuildHasher + Drop> Desk<K, V, E, S> {
     ghost use Rattle.moka_hist.specs.State.{DeskPart, Handed, fresh_desk};
     ghost use Rattle.moka_hist.specs.Run.{last_call};
-    ghost use Rattle.moka_hist.specs.Visits.{is_running};
     ghost use Rattle.moka_desk.specs.StandsFor.{StandsFor, Becomes};
     ghost use Rattle.moka_desk.specs.History.{KeepsAll, KeepsAsBefore, keeps_history, keeps_moments};
     ghost use Rattle.moka_desk.specs.ListedMiss.{ListedMiss, MissWith};
@@ -239,14 +238,13 @@ impl<K: Eq + Hash + Exact, V: Drop, E: Drop, S: BuildHasher + Drop> Desk<K, V, E
         self.published
     }
 
-    /// The notice of this number, if one was opened. Without a history only one that runs is known.
+    /// The notice of this number, if one was opened, where there is a history; without one it isn't
+    /// kept what the listener hears by it.
     pub fn notice(&self, number: u64) -> Result<Option<Notice<K, V>>, AllocError>
     where
         V: Exact,
         ensures whole { IfOk result (λ notice. keeps_history self.now ≡ true → (w : DeskPart K V E)
             → StandsFor K.eq self.now w → notice ≡ w.notices number) }
-        ensures running { IfOk result (λ notice. (w : DeskPart K V E) → StandsFor K.eq self.now w
-            → is_running w number ≡ true → notice ≡ w.notices number) }
     {
         self.notices.notice(number)
     }

@@ -1,7 +1,8 @@
 //! The visits that see to writes: owed, logged and applied.
 
-ghost use Rattle.std.specs.Prelude.{◌≡◌, ℕ, false, Some, None, cond, IfOk, OnOk, OnErr};
+ghost use Rattle.std.specs.Prelude.{◌≡◌, ◌+◌, ◌≤◌, ℕ, true, false, Some, None, cond, IfOk, OnOk, OnErr};
 ghost use Rattle.std.specs.Bool.{OnTrue, OnFalse};
+ghost use Rattle.std.specs.HashMap.{hash_map_len, spare};
 ghost use Rattle.moka_sync.specs.Holders.{is_others};
 ghost use Rattle.moka_sync.specs.Waiting.{waits};
 
@@ -53,8 +54,9 @@ impl<K: Eq + Hash + Exact, V: Drop, E: Drop, S: BuildHasher + Drop> Desk<K, V, E
         self.writes.take_owed(call)
     }
 
-    /// Takes the clock's moment for a write that follows, together with the places of that write.
-    /// The call holds no write, and none of its number stands anywhere.
+    /// Takes the clock's moment for a write that follows, together with the places of that write,
+    /// and of its notice, if there is a listener. The call holds no write, and none of its number
+    /// stands anywhere.
     pub fn stamp_moment(&mut self, call: u64) -> Result<u64, AllocError>
         requires { Can K.eq self.old (visit.StampMoment call) }
         ensures finds { IfOk result (λ moment. Finds K.eq self.old (visit.StampMoment call)
@@ -65,8 +67,13 @@ impl<K: Eq + Hash + Exact, V: Drop, E: Drop, S: BuildHasher + Drop> Desk<K, V, E
         ensures wakes { NobodyWakes self.old self.new }
         ensures misses { OnOk result (MissAfter K.eq self.old (visit.StampMoment call) self.new) }
         ensures misses_still { OnErr result (MissWith K.eq self.old (λ w. w) self.new) }
+        // A place for the notice of each call that has places for a write, and of this one.
+        ensures place { OnOk result (self.old.rules.listener ≡ true
+            → hash_map_len self.old.writes.held.holders + 1 ≤ spare self.new.notices.running) }
         ensures kept { KeepsAsBefore self.old self.new }
     {
+        let calls = self.writes.held.holders.len() + 1;
+        self.notices.reserve(self.rules.listener, calls)?;
         self.writes.stamp(call, self.clock)?;
         Ok(self.clock)
     }

@@ -1,10 +1,13 @@
 //! Notices, those that wait for one, and records that were chosen to leave.
 
+ghost use Rattle.std.specs.Prelude.{◌≡◌, false};
+ghost use Rattle.moka_desk.specs.History.{keeps_heard};
 ghost use Rattle.moka_desk_cases.specs.Rests.{IsNew};
 
 use crate::desks::{new_desk, rules_with};
 use moka_desk::Desk;
 use moka_hist::{Cause, Rules, Told};
+use moka_room::FixedSeed;
 use std::alloc::{AllocError, Global};
 use std::process::Abort;
 use std::test::Fail;
@@ -53,6 +56,29 @@ fn those_that_wait_for_a_notice_are_handed_out(rt: HostRuntime) -> Result<(), Fa
     let handed_out = are_handed_out(&rt, &mut desk);
     drop(desk);
     handed_out
+}
+
+/// Whether the notice of call 1, which neither key nor value is handed to, tells that its record was
+/// replaced, is waited for by call 2, and hands that out as it ends.
+fn is_heard_without_pair(desk: &mut Desk<u32, u32, u32>) -> Result<bool, AllocError>
+    requires { keeps_heard desk.old ≡ false }
+{
+    let cause = desk.open_unheard(1, 0, 0, None, true)?;
+    let runs = !desk.notice_ended(2, 1)?;
+    let woken = handed_out(desk, Told::Done);
+    let has_ended = desk.notice_ended(2, 1)?;
+    Ok(cause == Some(Cause::Replaced) && runs && woken == Some((1, Some(2))) && has_ended)
+}
+
+#[test]
+fn a_desk_without_a_history_opens_a_notice_without_its_pair(rt: HostRuntime) -> Result<(), Fail> {
+    let mut desk = Desk::without_history(rt.alloc(), rules_with(None), 4, 0, FixedSeed::new())?;
+    let keeps = desk.keeps_heard();
+    let heard = is_heard_without_pair(&mut desk);
+    drop(desk);
+    assert!(rt; !keeps);
+    assert!(rt; heard?);
+    Ok(())
 }
 
 /// The cause that the notice of a removal tells, to which this one was handed, on a new desk.

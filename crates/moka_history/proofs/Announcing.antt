@@ -8,7 +8,7 @@ use Rattle.moka_growth.specs.Maps.{IsElsewhere}
 use Rattle.moka_pairs.specs.Keys.{Agrees, Respects}
 use Rattle.moka_history.specs.declared.note.Note.TheVariants.{Announced}
 use Rattle.moka_history.specs.Entries.{Entry}
-use Rattle.moka_history.specs.States.{Door, Bucket, Ticket, Array, Row, Next, State, IsPlaced, after, memory_of, words_in}
+use Rattle.moka_history.specs.States.{Door, Bucket, Ticket, Array, Row, Next, Root, State, IsPlaced, after, memory_of, words_in}
 use Rattle.moka_history.specs.Rules.{WasPut, AreLinked, IsOwned, IsDrawn, IsGood, Lasts}
 use Rattle.moka_history.proofs.Cells.{announced_keeps}
 use Rattle.moka_history.proofs.Lists.{no_item, one_item, front_get, more_get}
@@ -16,6 +16,8 @@ use Rattle.moka_history.proofs.Named.{word_names}
 use Rattle.moka_history.proofs.Chains.{links_stay}
 use Rattle.moka_history.proofs.Owners.{array_not_ticket, next_not_ticket, row_not_ticket}
 use Rattle.moka_pairs.proofs.Names.{agrees_now}
+use Rattle.moka_history.proofs.Rooted.{was_rooted}
+use Rattle.moka_history.proofs.Swung.{root_not_ticket}
 use Rattle.moka_history.proofs.Resting.{rests_sound, rests_later, rests_map}
 
 door_not_ticket : {n : ℕ} {b : Bool} → Door ≡ Ticket n b → ⊥
@@ -69,6 +71,12 @@ module _ {K V : Type 0} (S : Type 0) (eq : K → K → Bool) (laws : IsEquivalen
     | inr new ↦ absurd (next_not_ticket new.1)
   ]
 
+  root_was : (k i t : ℕ) → slice_get drawn_state.cells k ≡ Some (Root i t) → slice_get s.cells k ≡ Some (Root i t)
+  root_was k i t at = elim (more_get s.cells (Ticket ticket false) k (Root i t) at) [
+    | inl old ↦ old
+    | inr new ↦ absurd (root_not_ticket new.1)
+  ]
+
   later_owned : IsOwned drawn_state
   later_owned = record {
     door = λ k. (
@@ -92,6 +100,7 @@ module _ {K V : Type 0} (S : Type 0) (eq : K → K → Bool) (laws : IsEquivalen
     ];
     arrays = λ j k n b c e f. owned.arrays j k n b c (array_was j n b e) (array_was k n c f);
     nexts = λ j k a t u e f. owned.nexts j k a t u (next_was j a t e) (next_was k a u f);
+    roots = λ j k i t u e f. owned.roots j k i t u (root_was j i t e) (root_was k i u f);
   }
     where
       past : (n k : ℕ) (b : Bool) → slice_get s.cells k ≡ Some (Ticket n b) → n ≡ ticket → ⊥
@@ -121,7 +130,8 @@ module _ {K V : Type 0} (S : Type 0) (eq : K → K → Bool) (laws : IsEquivalen
 
   later_linked : AreLinked drawn_state
   later_linked = links_stay s good.linked drawn_state refl (omega (arith, is)) drawn.first (λ i. refl) (λ a. refl) (agrees_now s.plans)
-      (λ k n b e. (b, front_get s.cells (Ticket ticket false ∷ []) k (Array n b) e, λ h. h)) (λ k n b e. inl (array_was k n b e)) next_was
+      (λ k n b e. (b, front_get s.cells (Ticket ticket false ∷ []) k (Array n b) e, λ h. h)) (λ k n b e. inl (array_was k n b e)) next_was root_was
+      (λ i. refl) good.linked.grown
 
   pub announced_good : IsGood eq hash place drawn_state es
   announced_good = record {
@@ -129,10 +139,11 @@ module _ {K V : Type 0} (S : Type 0) (eq : K → K → Bool) (laws : IsEquivalen
     drawn = later_drawn;
     linked = later_linked;
     sound = λ i below. rests_sound eq laws hash place respects s drawn_state grows i (good.sound i below) (elsewhere i);
-    puts = λ i index n p below named at. (
-        let (q, was, mine) = word_names eq hash place s es good i below index n (sym (ap (λ ws. node_of (word_at ws index)) (words.0 (suc i))) ∙ named) in
+    puts = λ i a index n p r named at. (
+        let root = was_rooted s drawn_state i a refl refl refl r in
+        let (q, was, mine) = word_names eq hash place s es good i a root index n (sym (ap (λ ws. node_of (word_at ws index)) (words.0 a)) ∙ named) in
         subst (λ x. WasPut eq es x.0) (one_item (sym (grows n q was) ∙ at))
-        (good.puts i index n q below (sym (ap (λ ws. node_of (word_at ws index)) (words.0 (suc i))) ∙ named) was)
+        (good.puts i a index n q root (sym (ap (λ ws. node_of (word_at ws index)) (words.0 a)) ∙ named) was)
         );
     legal = good.legal;
     map_is = λ q below. good.map_is q below
@@ -152,6 +163,7 @@ module _ {K V : Type 0} (S : Type 0) (eq : K → K → Bool) (laws : IsEquivalen
     rows = λ k n b e. inl (b, front_get s.cells (Ticket ticket false ∷ []) k (Row n b) e, λ h. h);
     buckets = λ k w e. (w, front_get s.cells (Ticket ticket false ∷ []) k (Bucket w) e);
     nexts = λ k a t e. (t, front_get s.cells (Ticket ticket false ∷ []) k (Next a t) e);
+    roots = λ k i t e. (t, front_get s.cells (Ticket ticket false ∷ []) k (Root i t) e);
     pairs = grows;
     plans = agrees_now s.plans;
     later = λ i below. rests_later eq laws hash place respects s drawn_state grows i (good.sound i below) (elsewhere i);

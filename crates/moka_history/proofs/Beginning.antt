@@ -10,9 +10,9 @@ use Rattle.moka_words.specs.declared.words.Word.{Word}
 use Rattle.moka_words.specs.declared.words.Word.TheVariants.{Empty}
 use Rattle.moka_growth.specs.Sound.{IsSound, IsRoot}
 use Rattle.moka_growth.proofs.Making.{empty_is_root, one_is_sound}
-use Rattle.moka_history.proofs.Lists.{map_get, no_item, one_item}
+use Rattle.moka_history.proofs.Lists.{front_get, map_get, no_item, one_item}
 use Rattle.moka_history.specs.declared.note.Note.TheVariants.{Opened}
-use Rattle.moka_history.specs.States.{Owner, Door, Bucket, Next, State, IsPlaced, after, first_keys, first_nexts, memory_of, unopened, word_in, words_in}
+use Rattle.moka_history.specs.States.{Owner, Door, Bucket, Next, Root, State, IsPlaced, after, first_keys, first_nexts, first_roots, memory_of, unopened, word_in, words_in}
 
 -- rows of one length end where the next one begins
 pub row_end : (i n length : ℕ) → i < n → i * length + length ≤ n * length
@@ -54,13 +54,38 @@ behind (suc n) (suc k) i more at = behind n k i more (omega (arith, at))
 
 -- the cell that names the array after the first one of a segment
 pub first_next : (segments length i : ℕ) → i < segments →
-    slice_get (Door ∷ (replicate (segments * length) (Bucket Empty) ++ first_nexts segments)) (1 + segments * length + i) ≡ Some (Next (suc i) 0)
+    slice_get (Door ∷ (replicate (segments * length) (Bucket Empty) ++ (first_nexts segments ++ first_roots segments))) (1 + segments * length + i) ≡ Some (Next (suc i) 0)
 first_next segments length i below =
     let at : 1 + segments * length + i ≡ suc (segments * length + i) = omega arith in
-    ap (slice_get (Door ∷ (replicate (segments * length) (Bucket Empty) ++ first_nexts segments))) at
-    ∙ (behind (segments * length) (segments * length + i) i (first_nexts segments) refl
-    ∙ (map_get (λ j. Next (suc j) 0) (range_with_len 0 segments) i
+    ap (slice_get (Door ∷ (replicate (segments * length) (Bucket Empty) ++ (first_nexts segments ++ first_roots segments)))) at
+    ∙ (behind (segments * length) (segments * length + i) i (first_nexts segments ++ first_roots segments) refl
+    ∙ front_get (first_nexts segments) (first_roots segments) i (Next (suc i) 0) (map_get (λ j. Next (suc j) 0) (range_with_len 0 segments) i
     ∙ (ap (option_map (λ j. Next (suc j) 0)) (range_there 0 segments i below) ∙ ap (λ m. Some (Next (suc m) 0)) same)))
+  where
+    same : 0 + i ≡ i
+    same = omega arith
+
+-- so many cells name arrays after first ones
+nexts_long : (a n : ℕ) → length (map (λ j. Next (suc j) 0) (range_with_len a n)) ≡ n
+nexts_long a zero = refl
+nexts_long a (suc n) = ap suc (nexts_long (a + 1) n)
+
+past_get : {A : Type 0} (xs ys : List A) (k i : ℕ) → k ≡ length xs + i → slice_get (xs ++ ys) k ≡ slice_get ys i
+past_get [] ys k i at = ap (slice_get ys) (omega (arith, at))
+past_get (x ∷ xs) ys zero i at = absurd (omega (arith, at))
+past_get (x ∷ xs) ys (suc k) i at = past_get xs ys k i (omega (arith, at))
+
+-- the cell that names the root of a segment
+pub first_root : (segments length i : ℕ) → i < segments →
+    slice_get (Door ∷ (replicate (segments * length) (Bucket Empty) ++ (first_nexts segments ++ first_roots segments)))
+    (1 + segments * length + segments + i) ≡ Some (Root i 0)
+first_root segments length i below =
+    let at : 1 + segments * length + segments + i ≡ suc (segments * length + (segments + i)) = omega arith in
+    ap (slice_get (Door ∷ (replicate (segments * length) (Bucket Empty) ++ (first_nexts segments ++ first_roots segments)))) at
+    ∙ (behind (segments * length) (segments * length + (segments + i)) (segments + i) (first_nexts segments ++ first_roots segments) refl
+    ∙ (past_get (first_nexts segments) (first_roots segments) (segments + i) i (ap (λ n. n + i) (sym (nexts_long 0 segments)))
+    ∙ (map_get (λ j. Root j 0) (range_with_len 0 segments) i
+    ∙ (ap (option_map (λ j. Root j 0)) (range_there 0 segments i below) ∙ ap (λ m. Some (Root m 0)) same))))
   where
     same : 0 + i ≡ i
     same = omega arith
@@ -83,16 +108,19 @@ module _ (K V : Type 0) {S : Type 0} (segments length_is : ℕ) (hasher : S) whe
   abbrev pub opened : State K V
   opened = after {S = S} unopened (Opened segments length_is hasher)
 
-  many : length (opened.cells) ≡ suc (segments * length_is + length (first_nexts segments))
-  many = ap suc (length-append (replicate (segments * length_is) (Bucket Empty)) (first_nexts segments)
-      ∙ ap (λ n. n + length (first_nexts segments)) (length-replicate (segments * length_is) (Bucket Empty)))
+  abbrev others : List Owner
+  others = first_nexts segments ++ first_roots segments
+
+  many : length (opened.cells) ≡ suc (segments * length_is + length others)
+  many = ap suc (length-append (replicate (segments * length_is) (Bucket Empty)) others
+      ∙ ap (λ n. n + length others) (length-replicate (segments * length_is) (Bucket Empty)))
 
   pub words_are : (i : ℕ) → i < segments → words_in opened (suc i) ≡ replicate length_is Empty
   words_are i below =
       let rows = row_end i segments length_is below in
       ap (λ b. map (word_in opened.cells) (if b then range_with_len (1 + i * length_is) length_is else [])) (lt-ltb i segments below)
       ∙ all_empty (word_in opened.cells) (1 + i * length_is) length_is
-      (λ k low high. cell_empty (first_nexts segments) (segments * length_is) k (omega (arith, low)) (omega (arith, high, rows)))
+      (λ k low high. cell_empty others (segments * length_is) k (omega (arith, low)) (omega (arith, high, rows)))
 
   -- rows are apart
   apart : (r q i j : ℕ) → i < length_is → j < length_is → 1 + r * length_is + i ≡ 1 + q * length_is + j → r ≡ q

@@ -5,7 +5,7 @@ use Rattle.moka_words.specs.declared.words.Word.{Word}
 use Rattle.moka_words.specs.Effect.{SetsWord}
 use Rattle.moka_history.specs.declared.note.Note.{Note}
 use Rattle.moka_history.specs.declared.note.Note.TheVariants.{Announced, Changed, Sealed, Copied}
-use Rattle.moka_history.specs.States.{Owner, Door, Bucket, Ticket, Array, Row, Next, State, IsPlaced, after, key_at, memory_of, spent, word_in, words_in}
+use Rattle.moka_history.specs.States.{Owner, Door, Bucket, Ticket, Array, Row, Next, Root, State, IsPlaced, after, key_at, memory_of, spent, word_in, words_in}
 
 one_item : {A : Type 0} {x y : A} → Some x ≡ Some y → x ≡ y
 one_item e = cc
@@ -19,6 +19,7 @@ word_spent ticket (Ticket n home ∷ cells) zero = refl
 word_spent ticket (Array n home ∷ cells) zero = refl
 word_spent ticket (Row n home ∷ cells) zero = refl
 word_spent ticket (Next a to ∷ cells) zero = refl
+word_spent ticket (Root segment to ∷ cells) zero = refl
 word_spent ticket (x ∷ cells) (suc k) = word_spent ticket cells k
 
 spent_length : (ticket : ℕ) (cells : List Owner) → length (map (spent ticket) cells) ≡ length cells

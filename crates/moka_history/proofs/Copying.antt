@@ -1,5 +1,5 @@
 -- A word is copied into an array that was linked, and all stays good.
-use Rattle.std.proofs.Common.{◌≡◌, ◌≢◌, ℕ, ◌<◌, Bool, true, false, List, ◌∷◌, map, length, set, Option, Some, suc, inl, inr, refl, sym, ap, subst, ◌∙◌, arith}
+use Rattle.std.proofs.Common.{◌≡◌, ◌≢◌, ℕ, ◌<◌, Bool, true, false, List, map, length, set, Option, Some, inl, inr, refl, sym, ap, subst, ◌∙◌, arith}
 use Rattle.std.proofs.lemmas.List.{length-map}
 use Rattle.std.specs.Cmp.{IsEquivalence}
 use Rattle.std.specs.List.{slice_get}
@@ -7,7 +7,7 @@ use Rattle.moka_words.specs.declared.words.Word.{Word}
 use Rattle.moka_words.specs.declared.words.Word.TheVariants.{Unset}
 use Rattle.moka_words.specs.declared.accesses.Seen.TheVariants as seen
 use Rattle.moka_words.specs.Words.{is_sealed, node_of, word_at}
-use Rattle.moka_words.specs.Layout.{IsEmptyOrLive, stored_nodes}
+use Rattle.moka_words.specs.Layout.{IsEmptyOrLive}
 use Rattle.moka_words.specs.Effect.{Memory, Effect, SetsWord, words_of}
 use Rattle.moka_words.proofs.Placing.{layout_is_filled}
 use Rattle.moka_growth.specs.Calls.{Call, access_of, wanted}
@@ -16,7 +16,7 @@ use Rattle.moka_growth.specs.Fits.{FitsAt, IsCopying}
 use Rattle.moka_growth.specs.Maps.{KeepsMap}
 use Rattle.moka_growth.specs.Sound.{IsSound}
 use Rattle.moka_growth.proofs.Copying.{unset_is_next}
-use Rattle.moka_growth.proofs.Mapped.{keeps_nodes}
+use Rattle.moka_growth.proofs.Mapped.{point_keeps_map}
 use Rattle.moka_pairs.specs.Keys.{Respects, hash_by, mine_by, own_for, same_by}
 use Rattle.moka_pairs.specs.Segments.{EffectAll, LaterAll, Sees, SoundAll}
 use Rattle.moka_pairs.proofs.Names.{agrees_now}
@@ -24,11 +24,11 @@ use Rattle.moka_pairs.proofs.Steps.{later_after, sound_after}
 use Rattle.moka_history.specs.declared.note.Note.{Note}
 use Rattle.moka_history.specs.declared.note.Note.TheVariants.{Copied}
 use Rattle.moka_history.specs.Entries.{Entry}
-use Rattle.moka_history.specs.States.{State, after, key_at, memory_of, word_in, words_in}
+use Rattle.moka_history.specs.States.{State, after, chain, key_at, memory_of, word_in, words_in}
 use Rattle.moka_history.specs.Cells.{cell_of, number_of}
-use Rattle.moka_history.specs.Rules.{keys_of, IsGood, IsSameOrSealed, Lasts}
+use Rattle.moka_history.specs.Rules.{keys_of, IsGood, IsRooted, IsSameOrSealed, Lasts}
 use Rattle.moka_history.specs.Keeping.{StandsAt}
-use Rattle.moka_history.proofs.Chains.{link_apart, link_high}
+use Rattle.moka_history.proofs.Chains.{chain_one, place_one}
 use Rattle.moka_history.proofs.Lists.{get_or, set_get}
 use Rattle.moka_history.proofs.Sealing.{IsNoNewSeal}
 use Rattle.moka_history.proofs.Setting.{set_cells, set_good, set_lasts, sets, word_by}
@@ -71,12 +71,12 @@ module _ {K V : Type 0} (S : Type 0) (eq : K → K → Bool) (laws : IsEquivalen
   sound : IsSound (hash_by hash known) (same_by eq known) (mine_by known) old
   sound = good.sound segment x.within known (agrees_now known)
 
-  place_is : copying.place ≡ 1
+  place_is : copying.place ≡ s.rooted segment
   place_is = unset_is_next old sound copying.place array index copying.left.rooted copying.there copying.more unset
 
-  -- so the array is the one that was linked
-  at_link : slice_get (s.links segment) 0 ≡ Some array
-  at_link = subst (λ p. slice_get (suc segment ∷ s.links segment) p ≡ Some array) place_is copying.there
+  -- so the array is the one that was linked after the root
+  at_link : slice_get (chain s segment) (s.rooted segment) ≡ Some array
+  at_link = subst (λ p. slice_get (chain s segment) p ≡ Some array) place_is copying.there
 
   within : index < length (s.arrays array)
   within = let inside = copying.more in let long = length-map (s.arrays array) (word_in s.cells) in omega (arith, inside, long)
@@ -84,11 +84,18 @@ module _ {K V : Type 0} (S : Type 0) (eq : K → K → Bool) (laws : IsEquivalen
   sets_here : SetsWord array index to old new
   sets_here = (sets S eq laws hash place respects s es good array index to within segment).0
 
-  first_other : (i : ℕ) → i < s.segments → suc i ≢ array
-  first_other i low same = let high = (link_high s good.linked segment 0 array at_link).0 in absurd (omega (arith, high, low, same))
+  root_other : (i a : ℕ) → IsRooted s i a → a ≢ array
+  root_other i a r same =
+      let copied_at : slice_get (chain s segment) (s.rooted segment) ≡ Some a = at_link ∙ ap Some (sym same) in
+      let own : i ≡ segment = chain_one s good.linked i segment r.rooted.place (s.rooted segment) a r.within x.within r.rooted.there copied_at in
+      let here : slice_get (chain s segment) r.rooted.place ≡ Some a = subst (λ j. slice_get (chain s j) r.rooted.place ≡ Some a) own r.rooted.there in
+      let one = place_one s good.linked segment r.rooted.place (s.rooted segment) a x.within here copied_at in
+      let before = r.rooted.before in
+      let count = ap s.rooted own in
+      absurd (omega (arith, one, before, count))
 
-  first_words : (i : ℕ) → i < s.segments → words_in copied_state (suc i) ≡ words_in s (suc i)
-  first_words i low = sets_here.1 (suc i) (first_other i low)
+  root_words : (i a : ℕ) → IsRooted s i a → words_in copied_state a ≡ words_in s a
+  root_words i a r = sets_here.1 a (root_other i a r)
 
   pub copied_effect : EffectAll eq hash known key (access_of c) seen.Copied old new
   copied_effect keys agrees = subst (λ a. Effect (hash_by hash keys) (own_for eq keys key) a seen.Copied old new) (sym (ap (wanted c.hash) x.stands))
@@ -104,16 +111,16 @@ module _ {K V : Type 0} (S : Type 0) (eq : K → K → Bool) (laws : IsEquivalen
   later_here = later_after eq laws hash respects known key c seen.Copied old new (good.sound segment x.within) sees
 
   keeps_here : KeepsMap old new
-  keeps_here = keeps_nodes old new (ap (λ ws. stored_nodes ws) (first_words segment x.within))
+  keeps_here = point_keeps_map (own_for eq known key) c.hash old new sound (call.Copy from array index laid) seen.Copied copying (inl (unset, sets_here))
 
-  alone : (i p a : ℕ) → i < s.segments → i ≢ segment → slice_get (suc i ∷ s.links i) p ≡ Some a → a ≢ array
-  alone i p a low other at = link_apart s good.linked i segment p 0 a array other low at at_link
+  alone : (i p a : ℕ) → i < s.segments → i ≢ segment → slice_get (chain s i) p ≡ Some a → a ≢ array
+  alone i p a low other at same = other (chain_one s good.linked i segment p (s.rooted segment) a low x.within at (at_link ∙ ap Some (sym same)))
 
-  node_same : (i j : ℕ) → i < s.segments → node_of (word_at (words_in copied_state (suc i)) j) ≡ node_of (word_at (words_in s (suc i)) j)
-  node_same i j low = ap (λ ws. node_of (word_at ws j)) (first_words i low)
+  node_same : (i a j : ℕ) → IsRooted s i a → node_of (word_at (words_in copied_state a) j) ≡ node_of (word_at (words_in s a) j)
+  node_same i a j r = ap (λ ws. node_of (word_at ws j)) (root_words i a r)
 
-  pub copied_words : (i j : ℕ) → i < s.segments → IsSameOrSealed (word_at (words_in s (suc i)) j) (word_at (words_in copied_state (suc i)) j)
-  copied_words i j low = inl (ap (λ ws. word_at ws j) (first_words i low))
+  pub copied_words : (i a j : ℕ) → IsRooted s i a → IsSameOrSealed (word_at (words_in s a) j) (word_at (words_in copied_state a) j)
+  copied_words i a j r = inl (ap (λ ws. word_at ws j) (root_words i a r))
 
   is_filled : IsEmptyOrLive to
   is_filled = subst (λ ws. IsEmptyOrLive (word_at ws index)) (sym copying.laid_is)

@@ -1,5 +1,5 @@
 -- A word is exchanged by a call, and all stays good.
-use Rattle.std.proofs.Common.{◌≡◌, ◌≢◌, ◌⊎◌, ℕ, ◌+◌, ◌<◌, ◌≤◌, ◌==◌, Bool, true, false, cond, List, [], ◌∷◌, ◌++◌, map, length, set, Option, Some, None, suc, inl, inr, refl, sym, ap, subst, ◌∙◌, arith}
+use Rattle.std.proofs.Common.{◌≡◌, ◌≢◌, ◌⊎◌, ℕ, ◌+◌, ◌<◌, ◌≤◌, ◌==◌, Bool, true, false, cond, List, [], ◌∷◌, ◌++◌, map, length, set, Option, Some, None, inl, inr, refl, sym, ap, subst, ◌∙◌, arith}
 use Rattle.std.proofs.lemmas.Bool.{eqb-true, false≢true}
 use Rattle.std.proofs.lemmas.Bool.Decides.{eqb_tells}
 use Rattle.std.proofs.lemmas.List.{get_or-set_other, length-map}
@@ -27,17 +27,19 @@ use Rattle.moka_pairs.proofs.Divided.{segment_are}
 use Rattle.moka_pairs.proofs.Steps.{ends_after, later_after, sound_after}
 use Rattle.moka_history.specs.declared.note.Note.TheVariants.{Changed}
 use Rattle.moka_history.specs.Entries.{Entry, map_after, pair_put}
-use Rattle.moka_history.specs.States.{Owner, Door, Bucket, Ticket, Array, Row, Next, State, IsPlaced, after, key_at, memory_of, spent, word_in, words_in}
+use Rattle.moka_history.specs.States.{Owner, Door, Bucket, Ticket, Array, Row, Next, Root, State, IsPlaced, after, key_at, memory_of, spent, word_in, words_in}
 use Rattle.moka_history.specs.Logs.{entry_of, entry_with}
 use Rattle.moka_history.specs.Cells.{cell_of, number_of}
-use Rattle.moka_history.specs.Rules.{WasPut, AreLinked, made_on, keys_of, pair_in, IsOwned, IsDrawn, IsGood, Lasts}
+use Rattle.moka_history.specs.Rules.{WasPut, AreLinked, made_on, keys_of, pair_in, IsOwned, IsDrawn, IsGood, IsRooted, Lasts}
 use Rattle.moka_history.specs.Keeping.{Exchanges}
 use Rattle.moka_history.proofs.Cells.{changed_sets, key_there}
-use Rattle.moka_history.proofs.Chains.{first_apart, links_stay}
-use Rattle.moka_history.proofs.Lists.{one_item, first_get, front_get, get_below, get_or, last_get, set_get, map_more as maps_more, times_more}
+use Rattle.moka_history.proofs.Chains.{chain_one, links_stay}
+use Rattle.moka_history.proofs.Lists.{one_item, front_get, get_below, get_or, last_get, set_get, map_more as maps_more, times_more}
 use Rattle.moka_history.proofs.Maps.{change_is, legal_more, map_more, named_pair}
-use Rattle.moka_history.proofs.Owners.{bucket_is_no_ticket, changed_cells, door_is_no_bucket, changed_here, changed_other, changed_from, unspent_array, unspent_door, unspent_next, unspent_row, unspent_ticket, array_not_bucket, next_not_bucket, row_not_bucket}
+use Rattle.moka_history.proofs.Owners.{bucket_is_no_ticket, changed_cells, door_is_no_bucket, changed_here, changed_other, changed_from, unspent_array, unspent_door, unspent_next, unspent_root, unspent_row, unspent_ticket, array_not_bucket, next_not_bucket, row_not_bucket}
 use Rattle.moka_history.proofs.Resting.{rests_sound, rests_later, rests_map}
+use Rattle.moka_history.proofs.Rooted.{was_rooted}
+use Rattle.moka_history.proofs.Swung.{root_not_bucket}
 
 not_door : {w : Word} → Door ≡ Bucket w → ⊥
 not_door e = absurd (cc (e))
@@ -107,8 +109,9 @@ module _ {K V : Type 0} (S : Type 0) (eq : K → K → Bool) (laws : IsEquivalen
   pub fits : IsProbing (own_by eq known key) c.hash old array size passed × IsChange (own_by eq known key) from to
   fits = subst (λ p. FitsAt (hash_by hash known) (own_for eq known (Some key)) c.hash old p) x.call.comes (x.call.fits known (agrees_now known))
 
-  pub is_root : array ≡ suc here
-  is_root = let rooted = fits.0.rooted in first_get (suc here) (s.links here) rooted.place array rooted.before rooted.there
+  -- the array is the root, or was it
+  pub is_rooted : IsRooted s here array
+  is_rooted = record { within = x.call.within; rooted = fits.0.rooted }
 
   pub within : index < length (s.arrays array)
   within =
@@ -181,9 +184,10 @@ module _ {K V : Type 0} (S : Type 0) (eq : K → K → Bool) (laws : IsEquivalen
       ∙ ap (λ w. Some (entry_with s.pairs ticket w to own_key)) x.found
 
   -- other segments
-  elsewhere : (i : ℕ) → i ≢ here → IsElsewhere (memory_of s i) (memory_of changed_state i)
-  elsewhere i other = record {
-    words = λ p a e. (sets i).0.1 a (λ same. first_apart s good.linked i here p a other x.call.within e (same ∙ is_root));
+  elsewhere : (i : ℕ) → i < s.segments → i ≢ here → IsElsewhere (memory_of s i) (memory_of changed_state i)
+  elsewhere i low other = record {
+    words = λ p a e. (sets i).0.1 a (λ same. other
+        (chain_one s good.linked i here p fits.0.rooted.place a low x.call.within e (fits.0.rooted.there ∙ ap Some (sym same))));
     arrays = refl;
     rooted = refl;
     fresh = omega arith;
@@ -192,13 +196,13 @@ module _ {K V : Type 0} (S : Type 0) (eq : K → K → Bool) (laws : IsEquivalen
   there_sound : (i : ℕ) → i < s.segments → SoundAll eq hash (keys_of place changed_state i) (memory_of changed_state i)
   there_sound i below = elim (eqb_tells i here) [
     | inl p ↦ subst (λ j. SoundAll eq hash (keys_of place changed_state j) (memory_of changed_state j)) (sym p.1) sound_here
-    | inr p ↦ rests_sound eq laws hash place respects s changed_state (agrees_now s.pairs) i (good.sound i below) (elsewhere i p.1)
+    | inr p ↦ rests_sound eq laws hash place respects s changed_state (agrees_now s.pairs) i (good.sound i below) (elsewhere i below p.1)
   ]
 
   there_later : (i : ℕ) → i < s.segments → LaterAll eq (keys_of place changed_state i) (memory_of s i) (memory_of changed_state i)
   there_later i below = elim (eqb_tells i here) [
     | inl p ↦ subst (λ j. LaterAll eq (keys_of place changed_state j) (memory_of s j) (memory_of changed_state j)) (sym p.1) later_here
-    | inr p ↦ rests_later eq laws hash place respects s changed_state (agrees_now s.pairs) i (good.sound i below) (elsewhere i p.1)
+    | inr p ↦ rests_later eq laws hash place respects s changed_state (agrees_now s.pairs) i (good.sound i below) (elsewhere i below p.1)
   ]
 
   -- the map
@@ -220,7 +224,7 @@ module _ {K V : Type 0} (S : Type 0) (eq : K → K → Bool) (laws : IsEquivalen
       by : (b : Bool) → eq own_key q ≡ b → cond b (pair_put entry) (map_after eq es q) ≡ pair_in eq place changed_state (place q) q
       by true same = absurd (other (sym (in_place ∙ alike own_key q same)))
       by false apart = good.map_is q below
-          ∙ sym (rests_map eq laws hash place respects s changed_state (agrees_now s.pairs) (place q) (good.sound (place q) below) (elsewhere (place q) other) q)
+          ∙ sym (rests_map eq laws hash place respects s changed_state (agrees_now s.pairs) (place q) (good.sound (place q) below) (elsewhere (place q) below other) q)
 
   map_longer : (q : K) → place q < s.segments → map_after eq longer q ≡ pair_in eq place changed_state (place q) q
   map_longer q below = map_more eq (λ k. None) es entry q ∙ elim (eqb_tells (place q) here) [
@@ -242,43 +246,39 @@ module _ {K V : Type 0} (S : Type 0) (eq : K → K → Bool) (laws : IsEquivalen
         ap (λ o. is_some (option_map (λ x. x.1) (pair_at s.pairs o))) stored ∙ ap (λ o. is_some (option_map (λ x. x.1) o)) at,
       )
 
-  put_here : (j n : ℕ) (p : K × V) → j ≡ here → node_of to ≡ Some n → s.pairs n ≡ Some p → WasPut eq longer p.0
-  put_here j n p is names at = elim (change_stores (own_by eq known key) from to fits.1 n names) [
+  put_here : (n : ℕ) (p : K × V) → node_of to ≡ Some n → s.pairs n ≡ Some p → WasPut eq longer p.0
+  put_here n p names at = elim (change_stores (own_by eq known key) from to fits.1 n names) [
     | inl stored ↦ put_now n p names at stored
-    | inr had ↦ put_before p.0 (good.puts here index n p x.call.within
-        (ap (λ a. node_of (word_at (words_in s a) index)) (sym is_root) ∙ (ap node_of x.found ∙ had)) at)
+    | inr had ↦ put_before p.0 (good.puts here array index n p is_rooted (ap node_of x.found ∙ had) at)
   ]
 
-  puts : (i j n : ℕ) (p : K × V) → i < s.segments → node_of (word_at (words_in changed_state (suc i)) j) ≡ Some n → s.pairs n ≡ Some p → WasPut eq longer p.0
-  puts i j n p below names at = elim (eqb_tells i here) [
+  puts : (i a j n : ℕ) (p : K × V) → IsRooted changed_state i a → node_of (word_at (words_in changed_state a) j) ≡ Some n → s.pairs n ≡ Some p →
+      WasPut eq longer p.0
+  puts i a j n p r names at = elim (eqb_tells a array) [
     | inl q ↦ elim (eqb_tells j index) [
-      | inl r ↦ put_here i n p q.1 (sym (word_here i j q.1 r.1) ∙ names) at
-      | inr r ↦ put_before p.0 (good.puts i j n p below (sym (word_beside i j q.1 r.1) ∙ names) at)
+      | inl l ↦ put_here n p (sym (word_here a j q.1 l.1) ∙ names) at
+      | inr l ↦ put_before p.0 (good.puts i a j n p root (sym (word_beside a j q.1 l.1) ∙ names) at)
     ]
-    | inr q ↦ put_before p.0 (good.puts i j n p below (sym (word_elsewhere i j q.1) ∙ names) at)
+    | inr q ↦ put_before p.0 (good.puts i a j n p root (sym (ap (λ ws. node_of (word_at ws j)) ((sets here).0.1 a q.1)) ∙ names) at)
   ]
     where
-      array_of : (k : ℕ) → k ≡ here → suc k ≡ array
-      array_of k is = ap suc is ∙ sym is_root
+      root : IsRooted s i a
+      root = was_rooted s changed_state i a refl refl refl r
 
       inside : index < length (words_in s array)
       inside = let long = length-map (s.arrays array) (word_in s.cells) in let below = within in omega (arith, long, below)
 
-      word_here : (k l : ℕ) → k ≡ here → l ≡ index → node_of (word_at (words_in changed_state (suc k)) l) ≡ node_of to
-      word_here k l is same = ap (λ a. node_of (word_at (words_in changed_state a) l)) (array_of k is)
+      word_here : (b l : ℕ) → b ≡ array → l ≡ index → node_of (word_at (words_in changed_state b) l) ≡ node_of to
+      word_here b l is same = ap (λ d. node_of (word_at (words_in changed_state d) l)) is
           ∙ (ap (λ ws. node_of (word_at ws l)) (sets here).0.0
           ∙ (ap (λ m. node_of (word_at (set (words_in s array) index to) m)) same
           ∙ ap node_of (get_or (set (words_in s array) index to) index to _ (set_get (words_in s array) index to inside))))
 
-      word_beside : (k l : ℕ) → k ≡ here → l ≢ index → node_of (word_at (words_in changed_state (suc k)) l) ≡ node_of (word_at (words_in s (suc k)) l)
-      word_beside k l is other = ap (λ a. node_of (word_at (words_in changed_state a) l)) (array_of k is)
+      word_beside : (b l : ℕ) → b ≡ array → l ≢ index → node_of (word_at (words_in changed_state b) l) ≡ node_of (word_at (words_in s b) l)
+      word_beside b l is other = ap (λ d. node_of (word_at (words_in changed_state d) l)) is
           ∙ (ap (λ ws. node_of (word_at ws l)) (sets here).0.0
           ∙ (ap node_of (get_or-set_other (words_in s array) index l to _ other)
-          ∙ ap (λ a. node_of (word_at (words_in s a) l)) (sym (array_of k is))))
-
-      word_elsewhere : (k l : ℕ) → k ≢ here → node_of (word_at (words_in changed_state (suc k)) l) ≡ node_of (word_at (words_in s (suc k)) l)
-      word_elsewhere k l other = ap (λ ws. node_of (word_at ws l))
-          ((sets here).0.1 (suc k) (λ same. let root = is_root in other (omega (arith, same, root))))
+          ∙ ap (λ d. node_of (word_at (words_in s d) l)) (sym is)))
 
   -- the cells
   abbrev pub bucket : ℕ
@@ -333,6 +333,11 @@ module _ {K V : Type 0} (S : Type 0) (eq : K → K → Bool) (laws : IsEquivalen
       let (p, was, is) = from_cell k (Next a t) at (λ e. next_not_bucket e) in
       was ∙ ap Some (unspent_next ticket p a t is)
 
+  from_root : (k i t : ℕ) → slice_get changed_state.cells k ≡ Some (Root i t) → slice_get s.cells k ≡ Some (Root i t)
+  from_root k i t at =
+      let (p, was, is) = from_cell k (Root i t) at (λ e. root_not_bucket e) in
+      was ∙ ap Some (unspent_root ticket p i t is)
+
   stays_array : (k n : ℕ) (b : Bool) → slice_get s.cells k ≡ Some (Array n b) → slice_get changed_state.cells k ≡ Some (Array n b)
   stays_array k n b at = changed_other ticket bucket to s.cells k (Array n b) (no_bucket k (Array n b) at (λ w e. array_not_bucket e)) at
 
@@ -354,11 +359,12 @@ module _ {K V : Type 0} (S : Type 0) (eq : K → K → Bool) (laws : IsEquivalen
     tickets = λ j k n b d e f. owned.tickets j k n (from_ticket j n b e).0 (from_ticket k n d f).0 (from_ticket j n b e).1 (from_ticket k n d f).1;
     arrays = λ j k n b d e f. owned.arrays j k n b d (from_array j n b e) (from_array k n d f);
     nexts = λ j k a t u e f. owned.nexts j k a t u (from_next j a t e) (from_next k a u f);
+    roots = λ j k i t u e f. owned.roots j k i t u (from_root j i t e) (from_root k i u f);
   }
 
   later_linked : AreLinked changed_state
   later_linked = links_stay s good.linked changed_state refl (omega arith) drawn.first (λ i. refl) (λ a. refl) (agrees_now s.plans)
-      (λ k n b e. (b, stays_array k n b e, λ h. h)) (λ k n b e. inl (from_array k n b e)) from_next
+      (λ k n b e. (b, stays_array k n b e, λ h. h)) (λ k n b e. inl (from_array k n b e)) from_next from_root (λ i. refl) good.linked.grown
 
   -- the entries of tickets
   made : (n : ℕ) → made_on n longer ≡ cond (n == ticket) (made_on n es + 1) (made_on n es)
@@ -429,6 +435,7 @@ module _ {K V : Type 0} (S : Type 0) (eq : K → K → Bool) (laws : IsEquivalen
     rows = λ k n b at. inl (b, changed_other ticket bucket to s.cells k (Row n b) (no_bucket k (Row n b) at (λ w e. row_not_bucket e)) at, λ h. h);
     buckets = changed_bucket;
     nexts = λ k a t at. (t, changed_other ticket bucket to s.cells k (Next a t) (no_bucket k (Next a t) at (λ w e. next_not_bucket e)) at);
+    roots = λ k i t at. (t, changed_other ticket bucket to s.cells k (Root i t) (no_bucket k (Root i t) at (λ w e. root_not_bucket e)) at);
     pairs = agrees_now s.pairs;
     plans = agrees_now s.plans;
     later = there_later;

@@ -25,12 +25,12 @@ use Rattle.moka_pairs.proofs.Steps.{fits_last}
 use Rattle.moka_history.specs.declared.note.Note.{Note}
 use Rattle.moka_history.specs.declared.note.Note.TheVariants.{Opened}
 use Rattle.moka_history.specs.Entries.{Entry, map_after}
-use Rattle.moka_history.specs.States.{Door, Bucket, Next, Ticket, State, first_keys, memory_of, word_in, word_of, words_in}
+use Rattle.moka_history.specs.States.{Door, Bucket, Next, Root, Ticket, State, first_keys, memory_of, word_in, word_of, words_in}
 use Rattle.moka_history.specs.Logs.{entries_of, state_of}
 use Rattle.moka_history.specs.Cells.{cell_of, cells_of, drawn, number_of}
-use Rattle.moka_history.specs.Rules.{made_on, keys_of, IsGood, Lasts, IsOpenedFor, IsFront, NamesSeal, IsKept}
+use Rattle.moka_history.specs.Rules.{made_on, keys_of, IsGood, IsRooted, Lasts, IsOpenedFor, IsFront, NamesSeal, IsKept}
 use Rattle.moka_history.specs.Keeping.{ArePut, IsDivided}
-use Rattle.moka_history.proofs.Beginning.{first_next, words_are}
+use Rattle.moka_history.proofs.Beginning.{first_next, first_root, words_are}
 use Rattle.moka_history.proofs.Folds.{entries_begin, entries_grow}
 use Rattle.moka_history.proofs.Named.{array_is, word_names}
 use Rattle.moka_history.proofs.Lists.{no_item, one_item, get_below, get_or, map_get, prefix_self, prefix_through}
@@ -132,10 +132,16 @@ module _ {K V S : Type 0} (eq : K → K → Bool) (hash : S → K → ℕ) (plac
         (omega (arith, below))).length_stays
         ∙ (ap (λ ws. length ws) (words_are K V kept.segments kept.size kept.hasher i below) ∙ length-replicate kept.size Empty)
 
-    pub words_have_pairs : (index n : ℕ) → node_of (word_at (words_in (state_of log) (suc i)) index) ≡ Some n →
+    -- the cell that names its root
+    pub root_now : (a : ℕ) × (slice_get (state_of log).cells (1 + kept.segments * kept.size + kept.segments + i) ≡ Some (Root i a))
+    root_now = first_lasts.roots (1 + kept.segments * kept.size + kept.segments + i) i 0 (first_root kept.segments kept.size i below)
+
+  -- an array that is a root, or was one
+  module _ (i a : ℕ) (r : IsRooted (state_of log) i a) where
+    pub words_have_pairs : (index n : ℕ) → node_of (word_at (words_in (state_of log) a) index) ≡ Some n →
         (p : K × V) × ((state_of log).pairs n ≡ Some p) × (Place p.0 ≡ i) × (n ≤ 2 ^ 60)
     words_have_pairs index n named =
-        let (p, there, is) = word_names eq (hash kept.hasher) Place (state_of log) (entries_of log) good_now i below_now index n named in
+        let (p, there, is) = word_names eq (hash kept.hasher) Place (state_of log) (entries_of log) good_now i a r index n named in
         (p, there, is, low there)
       where
         low : {p : K × V} → (state_of log).pairs n ≡ Some p → n ≤ 2 ^ 60
@@ -145,28 +151,31 @@ module _ {K V S : Type 0} (eq : K → K → Bool) (hash : S → K → ℕ) (plac
         ]
 
     -- an array without a free word was filled by puts
-    module _ (full : (index : ℕ) → index < kept.size → IsSome (node_of (word_at (words_in (state_of log) (suc i)) index))) where
+    module _ (full : (index : ℕ) → index < length (words_in (state_of log) a) → IsSome (node_of (word_at (words_in (state_of log) a) index))) where
+      abbrev size : ℕ
+      size = length (words_in (state_of log) a)
+
       some_is : {A : Type 0} (o : Option A) → IsSome o → (x : A) × (o ≡ Some x)
       some_is None e = absurd (false≢true e)
       some_is (Some x) e = (x, refl)
 
-      node_there : (index : ℕ) → index < kept.size → (n : ℕ) × (node_of (word_at (words_in (state_of log) (suc i)) index) ≡ Some n)
-      node_there index inside = some_is (node_of (word_at (words_in (state_of log) (suc i)) index)) (full index inside)
+      node_there : (index : ℕ) → index < size → (n : ℕ) × (node_of (word_at (words_in (state_of log) a) index) ≡ Some n)
+      node_there index inside = some_is (node_of (word_at (words_in (state_of log) a) index)) (full index inside)
 
-      pair_there : (index : ℕ) (inside : index < kept.size) → (p : K × V) × ((state_of log).pairs (node_there index inside).0 ≡ Some p) × (Place p.0 ≡ i)
-      pair_there index inside = word_names eq (hash kept.hasher) Place (state_of log) (entries_of log) good_now i below_now index
+      pair_there : (index : ℕ) (inside : index < size) → (p : K × V) × ((state_of log).pairs (node_there index inside).0 ≡ Some p) × (Place p.0 ≡ i)
+      pair_there index inside = word_names eq (hash kept.hasher) Place (state_of log) (entries_of log) good_now i a r index
           (node_there index inside).0 (node_there index inside).1
 
-      known_there : (index : ℕ) (inside : index < kept.size) → keys_of Place (state_of log) i (node_there index inside).0 ≡ Some (pair_there index inside).0.0
+      known_there : (index : ℕ) (inside : index < size) → keys_of Place (state_of log) i (node_there index inside).0 ≡ Some (pair_there index inside).0.0
       known_there index inside = segment_has (λ k. Place k == i) (state_of log).pairs (node_there index inside).0 (pair_there index inside).0
           (pair_there index inside).1 (eq-eqb (Place (pair_there index inside).0.0) i (pair_there index inside).2)
 
-      pub full_put : ArePut eq Place (entries_of log) i kept.size
+      pub full_put : ArePut eq Place (entries_of log) i size
       full_put = record {
         key = λ n b. (pair_there n b).0.0;
         own = λ n b. (pair_there n b).2;
-        put = λ n b. good_now.puts i n (node_there n b).0 (pair_there n b).0 below_now (node_there n b).1 (pair_there n b).1;
-        differ = λ n m b d same. (array_is eq (hash kept.hasher) Place (state_of log) (entries_of log) good_now i below_now).array.one n m
+        put = λ n b. good_now.puts i a n (node_there n b).0 (pair_there n b).0 r (node_there n b).1 (pair_there n b).1;
+        differ = λ n m b d same. (array_is eq (hash kept.hasher) Place (state_of log) (entries_of log) good_now i a r).array.one n m
             (node_there n b).0 (node_there m d).0 (node_there n b).1 (node_there m d).1
             (ap (λ o. is_one_key eq o (keys_of Place (state_of log) i (node_there m d).0)) (known_there n b)
             ∙ (ap (λ o. is_one_key eq (Some (pair_there n b).0.0) o) (known_there m d) ∙ same));
@@ -211,13 +220,13 @@ module _ {K V S : Type 0} (eq : K → K → Bool) (hash : S → K → ℕ) (plac
         let once = good_now.drawn.once ticket in
         omega (arith, one, grown, all, once)
 
-    -- a word of a first array that isn't as it was is sealed, or has an entry
-    pub entry_between : (i index : ℕ) → i < kept.segments →
-        word_at (words_in (state_of log) (suc i)) index ≢ word_at (words_in (state_of front) (suc i)) index →
-        (is_sealed (word_at (words_in (state_of log) (suc i)) index) ≡ true)
+    -- a word of an array that was a root, and isn't as it was, is sealed, or has an entry
+    pub entry_between : (i a index : ℕ) → IsRooted (state_of front) i a →
+        word_at (words_in (state_of log) a) index ≢ word_at (words_in (state_of front) a) index →
+        (is_sealed (word_at (words_in (state_of log) a) index) ≡ true)
         ⊎ ((e : Entry K V) × (slice_get (entries_of log) (length (entries_of front)) ≡ Some e)
         × ((own ticket : ℕ) → slice_get (state_of log).cells own ≡ Some (Ticket ticket false) → e.ticket ≢ ticket))
-    entry_between i index below differs = elim (cases_lt (length (entries_of front)) (length (entries_of log))) [
+    entry_between i a index r differs = elim (cases_lt (length (entries_of front)) (length (entries_of log))) [
       | inl less ↦ inr (let (e, at) = item_at (entries_of log) (length (entries_of front)) less in (
         e,
         at,
@@ -227,7 +236,7 @@ module _ {K V S : Type 0} (eq : K → K → Bool) (hash : S → K → ℕ) (plac
             omega (arith, some, none),
       ))
       | inr more ↦ elim (kept.still front log is (prefix_self log)
-          (let grown = entries_grow front log is.begins in omega (arith, more, grown)) i index below) [
+          (let grown = entries_grow front log is.begins in omega (arith, more, grown)) i a index r) [
             | inl same ↦ absurd (differs same)
             | inr sealed ↦ inl sealed
           ]

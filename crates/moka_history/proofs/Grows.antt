@@ -1,5 +1,5 @@
--- Links and copies over the words of a book, whatever it is when they are made.
-use Rattle.std.proofs.Common.{◌≡◌, ℕ, ◌<◌, ◌==◌, Bool, true, false, List, [], ◌∷◌, ◌++◌, length, set, Option, Some, None, suc, inl, inr, refl, sym, ap, subst, ◌∙◌, arith}
+-- Links, copies and swings over the words of a book, whatever it is when they are made.
+use Rattle.std.proofs.Common.{◌≡◌, ℕ, ◌<◌, ◌==◌, Bool, true, false, List, [], ◌∷◌, ◌++◌, length, set, Option, Some, None, inl, inr, refl, sym, ap, subst, ◌∙◌, arith}
 use Rattle.std.proofs.lemmas.Bool.{eqb-true, false≢true}
 use Rattle.std.specs.List.{slice_get}
 use mathlib.Core.List.{IsPrefix}
@@ -12,20 +12,20 @@ use Rattle.moka_growth.specs.Calls as call
 use Rattle.moka_growth.specs.Fits.{Rests}
 use Rattle.moka_growth.specs.Growing.{next_size}
 use Rattle.moka_history.specs.declared.note.Note.{Note}
-use Rattle.moka_history.specs.declared.note.Note.TheVariants.{ArrayLinked, Copied}
-use Rattle.moka_history.specs.States.{Array, Next, Row, State, key_at, memory_of, words_in}
+use Rattle.moka_history.specs.declared.note.Note.TheVariants.{ArrayLinked, Copied, Swung}
+use Rattle.moka_history.specs.States.{Array, Next, Root, Row, State, key_at, memory_of, no_next, root_number, words_in}
 use Rattle.moka_history.specs.Logs.{state_of}
 use Rattle.moka_history.specs.Cells.{number_of}
 use Rattle.moka_history.specs.Rules.{IsFront, IsKept, IsOpenedFor, IsRowStill, Holds, Lasts}
 use Rattle.moka_history.specs.Keeping.{IsDivided, IsReady, StandsAt}
-use Rattle.moka_history.specs.Moving.{Copies, Joins, MayLink, moved, shown}
+use Rattle.moka_history.specs.Moving.{Copies, Joins, MayLink, Swings, moved, shown}
 use Rattle.moka_history.proofs.Fronts.{cell_now, cells_now, fits_more, fits_still, good_now, lasts_now, opened_too, segments_are}
 use Rattle.moka_history.proofs.Lists.{one_item, get_or}
 use Rattle.moka_history.proofs.Numbers.{one_is_unset}
 use Rattle.moka_history.proofs.Owners.{array_is_array}
 use Rattle.moka_history.proofs.Plays.{opened_same, same_holds, same_looks, there}
 use Rattle.moka_history.proofs.Resting.{row_through}
-use Rattle.moka_history.proofs.Steps.{copying_entries, copying_holds, linking_entries, linking_holds}
+use Rattle.moka_history.proofs.Steps.{copying_entries, copying_holds, linking_entries, linking_holds, swinging_entries, swinging_holds}
 
 module _ {K V S : Type 0} (eq : K → K → Bool) (hash : S → K → ℕ) (place : S → ℕ → K → ℕ) (divided : IsDivided eq hash place)
     (segments first : ℕ) (hasher : S) (front : List (Note K V S)) (opened : IsOpenedFor segments first hasher front) where
@@ -60,13 +60,16 @@ module _ {K V S : Type 0} (eq : K → K → Bool) (hash : S → K → ℕ) (plac
           stands = came.stands;
         }
 
-  -- the word for the array after a segment's first one
-  module _ (segment size : ℕ) (nodes : List (ℕ × ℕ)) (key : Option K) (c : Call)
-      (x : StandsAt eq (hash hasher) (place hasher segments) (state_of front) segment key c (call.Link (Some (suc segment)) size nodes))
-      (own ticket next : ℕ) (keys : List ℕ) (may : MayLink (state_of front) segment own ticket next keys)
-      (length_is : length keys ≡ next_size (Some (suc segment)) size (length nodes)) where
+  -- the word for the array after another one
+  module _ (segment before size : ℕ) (nodes : List (ℕ × ℕ)) (key : Option K) (c : Call)
+      (x : StandsAt eq (hash hasher) (place hasher segments) (state_of front) segment key c (call.Link (Some before) size nodes))
+      (own ticket next : ℕ) (keys : List ℕ) (behind : ℕ) (may : MayLink (state_of front) segment before own ticket next keys behind)
+      (length_is : length keys ≡ next_size (Some before) size (length nodes)) where
     abbrev linking : Note K V S
-    linking = ArrayLinked ticket segment (Some (suc segment)) keys
+    linking = ArrayLinked ticket segment (Some before) keys behind
+
+    abbrev none : ℕ
+    none = no_next segment before
 
     module _ (cs : List Cell) (log : List (Note K V S)) (holds : Holds eq hash place cs log) (pre : IsPrefix front log) (away : Away (nib may_write own 0) cs) where
       abbrev now : State K V
@@ -82,40 +85,42 @@ module _ {K V S : Type 0} (eq : K → K → Bool) (hash : S → K → ℕ) (plac
           let is_away : b ≡ false = sym (ap (λ y. y.1) held.1) ∙ (away refl).1 in
           there_now ∙ ap (λ y. Some (Array ticket y)) is_away
 
-      next_now : (u : ℕ) × (slice_get now.cells next ≡ Some (Next (suc segment) u))
-      next_now = (lasts log kept pre).nexts next (suc segment) may.array may.free
+      next_now : (u : ℕ) × (slice_get now.cells next ≡ Some (Next before u))
+      next_now = (lasts log kept pre).nexts next before may.array may.free
 
       held : (next < length cs) × (cell cs next ≡ (next_now.0, true))
-      held = cell_now eq hash place log kept cs holds.0 next (Next (suc segment) next_now.0) next_now.1
+      held = cell_now eq hash place log kept cs holds.0 next (Next before next_now.0) next_now.1
 
       home : (cell cs next).1 ≡ true
       home = ap (λ y. y.1) held.1
 
       row_by : (k : ℕ) → IsRowStill now k ticket true → slice_get now.cells k ≡ Some (Row ticket true)
       row_by k (inl (b, at, still)) = at ∙ ap (λ y. Some (Row ticket y)) (still refl)
-      row_by k (inr (w, at, (j, there_now))) =
+      row_by k (inr (o, at, is, (j, there_now))) =
           let same = (good_now eq hash place log kept).owned.arrays j own ticket true false there_now own_now in
           absurd (false≢true (sym (array_is_array (one_item (sym there_now ∙ (ap (slice_get now.cells) same ∙ own_now)))).1))
 
-      ready : next_now.0 ≡ 0 → IsReady now segment own ticket next keys
-      ready none = record {
+      ready : next_now.0 ≡ none → IsReady now segment before own ticket next keys behind
+      ready is_none = record {
         there = own_now;
-        planned = (lasts log kept pre).plans ticket (record { segment = segment; size = length keys; grown = Some (suc segment) }) may.planned;
+        planned = (lasts log kept pre).plans ticket (record { segment = segment; size = length keys; grown = Some before }) may.planned;
         made = record {
           home = λ i k at. row_by k (row_through eq (place kept.hasher kept.segments)
               (state_of front) now (lasts log kept pre) k ticket true (may.each i k at));
           differ = may.differ;
+          last = row_by behind (row_through eq (place kept.hasher kept.segments) (state_of front) now (lasts log kept pre) behind ticket true may.last);
+          apart = may.apart;
         };
-        free = next_now.1 ∙ ap (λ u. Some (Next (suc segment) u)) none;
+        free = next_now.1 ∙ ap (λ u. Some (Next before u)) is_none;
       }
 
-      joins : (b : Bool) → ((cell cs next).0 == 0) ≡ b →
-          Goes (Holds eq hash place) shown moved next (front, (nib may_write own 0, None)) (λ n. either (n == 0) ticket n)
-          (Joins eq hash place (step next 0 ticket linking) (front, (nib may_write own 0, None))) cs log
+      joins : (b : Bool) → ((cell cs next).0 == none) ≡ b →
+          Goes (Holds eq hash place) shown moved next (front, (nib may_write own 0, None)) (λ n. either (n == none) ticket n)
+          (Joins eq hash place (step next none ticket linking) (front, (nib may_write own 0, None))) cs log
       joins true e =
-          let r = ready (sym (ap (λ y. y.0) held.1) ∙ eqb-true (cell cs next).0 0 e) in
-          let stands = stands_now log kept pre segment key c (call.Link (Some (suc segment)) size nodes) tt x in
-          let then = linking_holds eq hash place divided log kept cs holds.0 segment size nodes key c stands own ticket next keys r length_is in (
+          let r = ready (sym (ap (λ y. y.0) held.1) ∙ eqb-true (cell cs next).0 none e) in
+          let stands = stands_now log kept pre segment key c (call.Link (Some before) size nodes) tt x in
+          let then = linking_holds eq hash place divided log kept cs holds.0 segment before size nodes key c stands own ticket next keys behind r length_is in (
             gives,
             linking ∷ [],
             None,
@@ -125,7 +130,7 @@ module _ {K V S : Type 0} (eq : K → K → Bool) (hash : S → K → ℕ) (plac
             rw e (record {
               added = record { log = log; begins = pre; was_kept = kept; there = there eq hash place cs log holds next home; more = refl; kept = then.1 };
               ready = r;
-              entries = linking_entries eq hash place divided log kept cs holds.0 segment size nodes key c stands own ticket next keys r length_is;
+              entries = linking_entries eq hash place divided log kept cs holds.0 segment before size nodes key c stands own ticket next keys behind r length_is;
             }),
           )
       joins false e = (
@@ -135,12 +140,12 @@ module _ {K V S : Type 0} (eq : K → K → Bool) (hash : S → K → ℕ) (plac
         tt,
         rw e (same_holds eq hash place cs log holds next home),
         inl (refl, refl),
-        rw e (same_looks eq hash place cs log holds next home front (nib may_write own 0) 0 ticket linking),
+        rw e (same_looks eq hash place cs log holds next home front (nib may_write own 0) none ticket linking),
       )
 
-    pub linking_moves : Moves (Holds eq hash place) shown moved next (front, (nib may_write own 0, None)) (λ n. either (n == 0) ticket n)
-        (Joins eq hash place (step next 0 ticket linking) (front, (nib may_write own 0, None)))
-    linking_moves cs log holds pre away = ((held cs log holds pre away).0, home cs log holds pre away, joins cs log holds pre away ((cell cs next).0 == 0) refl)
+    pub linking_moves : Moves (Holds eq hash place) shown moved next (front, (nib may_write own 0, None)) (λ n. either (n == none) ticket n)
+        (Joins eq hash place (step next none ticket linking) (front, (nib may_write own 0, None)))
+    linking_moves cs log holds pre away = ((held cs log holds pre away).0, home cs log holds pre away, joins cs log holds pre away ((cell cs next).0 == none) refl)
 
   -- an unset word
   module _ (segment array index : ℕ) (from : Option ℕ) (laid : List Word) (key : Option K) (c : Call)
@@ -202,3 +207,62 @@ module _ {K V S : Type 0} (eq : K → K → Bool) (hash : S → K → ℕ) (plac
     pub copying_moves : Moves (Holds eq hash place) shown moved bucket (front, (no_nib, None)) (λ n. either (n == 1) (number_of to) n)
         (Copies eq hash place (step bucket 1 (number_of to) copying) (front, (no_nib, None)))
     copying_moves cs log holds pre away = ((word cs log holds pre).0, word_home cs log holds pre, copies cs log holds pre ((cell cs bucket).0 == 1) refl)
+
+  -- the word for a segment's root
+  module _ (segment from to : ℕ) (key : Option K) (c : Call)
+      (x : StandsAt eq (hash hasher) (place hasher segments) (state_of front) segment key c (call.Swing (Some from) to))
+      (root number : ℕ) (root_there : slice_get (state_of front).cells root ≡ Some (Root segment number)) where
+    abbrev was : ℕ
+    was = root_number segment from
+
+    abbrev swinging : Note K V S
+    swinging = Swung segment from to
+
+    module _ (cs : List Cell) (log : List (Note K V S)) (holds : Holds eq hash place cs log) (pre : IsPrefix front log) where
+      abbrev state_now : State K V
+      state_now = state_of log
+
+      abbrev kept_now : IsKept eq hash place log
+      kept_now = holds.1
+
+      named_now : (u : ℕ) × (slice_get state_now.cells root ≡ Some (Root segment u))
+      named_now = (lasts log kept_now pre).roots root segment number root_there
+
+      root_held : (root < length cs) × (cell cs root ≡ (named_now.0, true))
+      root_held = cell_now eq hash place log kept_now cs holds.0 root (Root segment named_now.0) named_now.1
+
+      root_home : (cell cs root).1 ≡ true
+      root_home = ap (λ y. y.1) root_held.1
+
+      swings : (b : Bool) → ((cell cs root).0 == was) ≡ b →
+          Goes (Holds eq hash place) shown moved root (front, (no_nib, None)) (λ n. either (n == was) to n)
+          (Swings eq hash place (step root was to swinging) (front, (no_nib, None))) cs log
+      swings true e =
+          let is : named_now.0 ≡ was = sym (ap (λ y. y.0) root_held.1) ∙ eqb-true (cell cs root).0 was e in
+          let there_yet : slice_get state_now.cells root ≡ Some (Root segment was) = named_now.1 ∙ ap (λ u. Some (Root segment u)) is in
+          let stands = stands_now log kept_now pre segment key c (call.Swing (Some from) to) tt x in
+          let then = swinging_holds eq hash place divided log kept_now cs holds.0 segment from to key c stands root there_yet in (
+            keeps,
+            swinging ∷ [],
+            None,
+            tt,
+            rw e then,
+            inl (refl, refl),
+            rw e (
+              record { log = log; begins = pre; was_kept = kept_now; there = there eq hash place cs log holds root root_home; more = refl; kept = then.1 },
+              swinging_entries eq hash place divided log kept_now cs holds.0 segment from to key c stands root there_yet,
+            ),
+          )
+      swings false e = (
+        keeps,
+        [],
+        None,
+        tt,
+        rw e (same_holds eq hash place cs log holds root root_home),
+        inl (refl, refl),
+        rw e (same_looks eq hash place cs log holds root root_home front no_nib was to swinging),
+      )
+
+    pub swinging_moves : Moves (Holds eq hash place) shown moved root (front, (no_nib, None)) (λ n. either (n == was) to n)
+        (Swings eq hash place (step root was to swinging) (front, (no_nib, None)))
+    swinging_moves cs log holds pre away = ((root_held cs log holds pre).0, root_home cs log holds pre, swings cs log holds pre ((cell cs root).0 == was) refl)

@@ -6,9 +6,10 @@ use Rattle.std.specs.List.{slice_get}
 use Rattle.std.specs.Option.{option_map}
 use Rattle.moka_words.specs.declared.words.Word.{Word}
 use Rattle.moka_words.specs.declared.words.Word.TheVariants.{Unset}
-use Rattle.moka_history.specs.States.{Owner, Door, Bucket, Ticket, Array, Row, Next, is_grown, joined, word_in, word_of}
+use Rattle.moka_history.specs.States.{Owner, Door, Bucket, Ticket, Array, Row, Next, Root, is_grown, joined, word_in, word_of}
 use Rattle.moka_history.specs.Cells.{cell_of}
 use Rattle.moka_history.proofs.Lists.{one_item, get_below, list_is, map_get, map_length, other_get, set_get}
+use Rattle.moka_history.proofs.Swung.{root_not_array, root_not_bucket, root_not_door, root_not_next, root_not_row, root_not_ticket}
 use Rattle.moka_history.proofs.Owners.{array_is_array, array_not_bucket, array_not_row, array_not_ticket, door_not_array, door_not_next, door_not_row, next_is_next, next_not_array, next_not_bucket, next_not_row, next_not_ticket, row_not_bucket, row_not_ticket}
 
 door_not_bucket : {w : Word} → Door ≡ Bucket w → ⊥
@@ -34,6 +35,7 @@ module _ (t : ℕ) (g : Option ℕ) where
   unjoined_door (Row n false) e = absurd (door_not_row e)
   unjoined_door (Row n true) e = elim (home_row Door n (n == t) e) [ inl d ↦ absurd (door_not_bucket d) | inr d ↦ absurd (door_not_row d) ]
   unjoined_door (Next a u) e = absurd (door_not_next e)
+  unjoined_door (Root i u) e = absurd (root_not_door (sym e))
 
   pub unjoined_ticket : (o : Owner) (n : ℕ) (b : Bool) → Ticket n b ≡ joined t g o → o ≡ Ticket n b
   unjoined_ticket Door n b e = absurd (door_not_ticket (sym e))
@@ -46,6 +48,7 @@ module _ (t : ℕ) (g : Option ℕ) where
     | inr d ↦ absurd (row_not_ticket (sym d))
   ]
   unjoined_ticket (Next a u) n b e = absurd (next_not_ticket (sym e))
+  unjoined_ticket (Root i u) n b e = absurd (root_not_ticket (sym e))
 
   pub unjoined_array : (o : Owner) (n : ℕ) (b : Bool) → Array n b ≡ joined t g o → (c : Bool) × (o ≡ Array n c) × (b ≡ cond (n == t) true c)
   unjoined_array Door n b e = absurd (door_not_array (sym e))
@@ -57,6 +60,7 @@ module _ (t : ℕ) (g : Option ℕ) where
   unjoined_array (Row m false) n b e = absurd (array_not_row e)
   unjoined_array (Row m true) n b e = elim (home_row (Array n b) m (m == t) e) [ inl d ↦ absurd (array_not_bucket d) | inr d ↦ absurd (array_not_row d) ]
   unjoined_array (Next a u) n b e = absurd (next_not_array (sym e))
+  unjoined_array (Root i u) n b e = absurd (root_not_array (sym e))
 
   pub unjoined_row : (o : Owner) (n : ℕ) (b : Bool) → Row n b ≡ joined t g o → o ≡ Row n b
   unjoined_row Door n b e = absurd (door_not_row (sym e))
@@ -66,6 +70,7 @@ module _ (t : ℕ) (g : Option ℕ) where
   unjoined_row (Row m false) n b e = sym e
   unjoined_row (Row m true) n b e = elim (home_row (Row n b) m (m == t) e) [ inl d ↦ absurd (row_not_bucket d) | inr d ↦ sym d ]
   unjoined_row (Next a u) n b e = absurd (next_not_row (sym e))
+  unjoined_row (Root i u) n b e = absurd (root_not_row (sym e))
 
   pub unjoined_next : (o : Owner) (a u : ℕ) → Next a u ≡ joined t g o → (v : ℕ) × (o ≡ Next a v) × (u ≡ cond (is_grown g a) t v)
   unjoined_next Door a u e = absurd (door_not_next (sym e))
@@ -77,6 +82,17 @@ module _ (t : ℕ) (g : Option ℕ) where
   unjoined_next (Next b v) a u e =
       let (same, is) = next_is_next e in
       (v, ap (λ k. Next k v) (sym same), is ∙ ap (λ k. cond (is_grown g k) t v) (sym same))
+  unjoined_next (Root i v) a u e = absurd (root_not_next (sym e))
+
+  pub unjoined_root : (o : Owner) (i u : ℕ) → Root i u ≡ joined t g o → o ≡ Root i u
+  unjoined_root Door i u e = absurd (root_not_door e)
+  unjoined_root (Bucket w) i u e = absurd (root_not_bucket e)
+  unjoined_root (Ticket m c) i u e = absurd (root_not_ticket e)
+  unjoined_root (Array m c) i u e = absurd (root_not_array e)
+  unjoined_root (Row m false) i u e = absurd (root_not_row e)
+  unjoined_root (Row m true) i u e = elim (home_row (Root i u) m (m == t) e) [ inl d ↦ absurd (root_not_bucket d) | inr d ↦ absurd (root_not_row d) ]
+  unjoined_root (Next a v) i u e = absurd (root_not_next e)
+  unjoined_root (Root j v) i u e = sym e
 
   -- a row stays one, or is of the ticket and home
   pub row_joined : (n : ℕ) (b : Bool) → (joined t g (Row n b) ≡ Row n b) ⊎ ((n ≡ t) × (joined t g (Row n b) ≡ Bucket Unset))
@@ -105,6 +121,7 @@ module _ (t : ℕ) (g : Option ℕ) where
       by true = refl
       by false = refl
   same_word (Next a u) = refl
+  same_word (Root i u) = refl
 
   pub word_joined : (cells : List Owner) (k : ℕ) → word_in (map (joined t g) cells) k ≡ word_in cells k
   word_joined [] k = refl
@@ -141,8 +158,9 @@ module _ (d t first : ℕ) where
     | inl p ↦ absurd (no_next u (ap (λ m. Next m u) p.1))
     | inr p ↦ ap (λ c. cell_of d (Next a (cond c t u))) p.0
   ]
+  cell_rests (Root i u) no_array no_next = refl
 
-  module _ (os : List Owner) (next own : ℕ) (free : slice_get os next ≡ Some (Next first 0)) (there : slice_get os own ≡ Some (Array t false))
+  module _ (os : List Owner) (next own v : ℕ) (free : slice_get os next ≡ Some (Next first v)) (there : slice_get os own ≡ Some (Array t false))
       (one_next : (k u : ℕ) → slice_get os k ≡ Some (Next first u) → k ≡ next) (one_array : (k : ℕ) (b : Bool) → slice_get os k ≡ Some (Array t b) → k ≡ own) where
     abbrev held : List (ℕ × Bool)
     held = map (cell_of d) os
@@ -151,7 +169,7 @@ module _ (d t first : ℕ) where
     own_below = let low = get_below os own (Array t false) there in let long = map_length (cell_of d) os in omega (arith, low, long)
 
     next_below : next < length held
-    next_below = let low = get_below os next (Next first 0) free in let long = map_length (cell_of d) os in omega (arith, low, long)
+    next_below = let low = get_below os next (Next first v) free in let long = map_length (cell_of d) os in omega (arith, low, long)
 
     apart : next ≢ own
     apart same = next_not_array (one_item (sym free ∙ (ap (slice_get os) same ∙ there)))
@@ -176,7 +194,7 @@ module _ (d t first : ℕ) where
       | inr p ↦ other_get (set held next (t, true)) own k (0, true) p.1 ∙ elim (eqb_tells k next) [
         | inl q ↦ ap (slice_get (set held next (t, true))) q.1
             ∙ (set_get held next (t, true) next_below
-            ∙ (sym (ap (λ c. Some (cond c t 0, true)) (eq-eqb first first refl))
+            ∙ (sym (ap (λ c. Some (cond c t v, true)) (eq-eqb first first refl))
             ∙ (sym (ap (λ o. option_map (cell_of d) (option_map joins o)) free)
             ∙ (sym (then next) ∙ ap (slice_get (map (cell_of d) (map joins os))) (sym q.1)))))
         | inr q ↦ other_get held next k (t, true) q.1 ∙ (was k ∙ (rests k p.1 q.1 (slice_get os k) refl ∙ sym (then k)))

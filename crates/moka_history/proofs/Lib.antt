@@ -4,9 +4,11 @@ pub mod Cells
 pub mod Beginning
 pub mod Lists
 pub mod Numbers
+pub mod Swung
 pub mod Owners
 pub mod Named
 pub mod Chains
+pub mod Rooted
 pub mod Resting
 pub mod Quiet
 pub mod Rows
@@ -16,6 +18,7 @@ pub mod Copying
 pub mod Joined
 pub mod Renumbered
 pub mod Linking
+pub mod Swinging
 pub mod There
 pub mod Announcing
 pub mod Exchanged

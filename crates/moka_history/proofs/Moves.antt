@@ -8,24 +8,24 @@ use mathlib.Core.List.{IsPrefix}
 use prog.Atomic.{either}
 use Rattle.logbook.specs.Pages.{Away, Cell, Goes, Moves, adds, cell, gives, keeps, may_write, nib, no_nib, step}
 use Rattle.moka_words.specs.declared.words.Word.{Word}
-use Rattle.moka_words.specs.Words.{is_sealed, node_of, word_at}
+use Rattle.moka_words.specs.Words.{is_sealed, word_at}
 use Rattle.moka_growth.specs.Fits.{HasBeenRoot}
 use Rattle.moka_growth.specs.Growing.{seal_of}
 use Rattle.moka_pairs.specs.Keys.{Agrees}
 use Rattle.moka_history.specs.declared.note.Note.{Note}
 use Rattle.moka_history.specs.declared.note.Note.TheVariants.{ArrayAnnounced, CellAdded, CellHome, Sealed}
-use Rattle.moka_history.specs.States.{Bucket, Row, State, key_at, memory_of, word_in, words_in}
+use Rattle.moka_history.specs.States.{Owner, Door, Bucket, Ticket, Array, Row, Next, Root, State, key_at, memory_of, word_in, words_in}
 use Rattle.moka_history.specs.Logs.{state_of}
-use Rattle.moka_history.specs.Cells.{drawn, number_of}
-use Rattle.moka_history.specs.Rules.{IsFront, IsRowStill, IsKept, Holds}
+use Rattle.moka_history.specs.Cells.{cell_of, drawn, number_of}
+use Rattle.moka_history.specs.Rules.{IsFront, IsOfArray, IsRooted, IsRowStill, IsKept, Holds}
 use Rattle.moka_history.specs.Keeping.{IsBare, IsDivided, IsSmall}
 use Rattle.moka_history.specs.Moving.{Adds, AnnouncesArray, BringsHome, IsHome, Seals, moved, shown}
-use Rattle.moka_history.proofs.Fronts.{cell_now, cells_now, good_now, lasts_now, segments_are, words_have_pairs}
-use Rattle.moka_history.proofs.Lists.{first_get, get_below, get_or}
+use Rattle.moka_history.proofs.Fronts.{cell_now, cells_now, good_now, lasts_now, words_have_pairs}
+use Rattle.moka_history.proofs.Lists.{get_below, get_or}
 use Rattle.moka_history.proofs.Numbers.{numbers_tell}
 use Rattle.moka_history.proofs.Owners.{set_same}
 use Rattle.moka_history.proofs.Plays.{place_home, same_holds, same_looks, there}
-use Rattle.moka_history.proofs.Resting.{row_through}
+use Rattle.moka_history.proofs.Resting.{rooted_through, row_through}
 use Rattle.moka_history.proofs.Steps.{adding_cell, adding_entries, adding_holds, announcing_cell, announcing_entries, announcing_holds, announcing_plan, bringing_cell, bringing_entries, bringing_holds, sealing_entries, sealing_holds}
 
 -- an exchange for the number that was expected leaves what it meets
@@ -43,10 +43,21 @@ agrees_some {A} more known agrees n has = by (known n) refl has
     by None e h = absurd (false≢true h)
     by (Some a) e h = ap is_some (agrees n a e)
 
+-- a cell of an array is home
+of_array_home : (d : ℕ) (o : Owner) → IsOfArray o → (cell_of d o).1 ≡ true
+of_array_home d Door is = absurd is
+of_array_home d (Bucket w) is = refl
+of_array_home d (Ticket n b) is = absurd is
+of_array_home d (Array n b) is = absurd is
+of_array_home d (Row n b) is = absurd is
+of_array_home d (Next a u) is = refl
+of_array_home d (Root i u) is = absurd is
+
 module _ {K V S : Type 0} (eq : K → K → Bool) (hash : S → K → ℕ) (place : S → ℕ → K → ℕ) (divided : IsDivided eq hash place)
     (front : List (Note K V S)) (some : 0 < length front) where
   -- the next ticket, for an array
-  module _ (count ticket segment size : ℕ) (grown : Option ℕ) (is : ticket ≡ (state_of front).segments + (count + 1)) (small : ticket ≤ 2 ^ 60) where
+  module _ (count ticket segment size : ℕ) (grown : Option ℕ) (is : ticket ≡ (state_of front).segments + (count + 1)) (small : ticket ≤ 2 ^ 60)
+      (low_number : (g : ℕ) → grown ≡ Some g → g ≤ (state_of front).last) where
     abbrev announced : Note K V S
     announced = ArrayAnnounced ticket segment size grown
 
@@ -66,10 +77,12 @@ module _ {K V S : Type 0} (eq : K → K → Bool) (hash : S → K → ℕ) (plac
           let low = (good_now eq hash place log holds.1).drawn.first in
           let same = (lasts_now eq hash place log holds.1 front (record { some = some; begins = pre })).segments in
           let next : ticket ≡ suc then_now.last = omega (arith, count_is, low, same, is) in
+          let last = (lasts_now eq hash place log holds.1 front (record { some = some; begins = pre })).last in
+          let low_now : (g : ℕ) → grown ≡ Some g → g ≤ then_now.last = λ g names. (let before = low_number g names in omega (arith, before, last)) in
           let one_more : suc (drawn then_now) ≡ count + 1 = omega (arith, count_is) in
           let then : Holds eq hash place (set cs 0 (count + 1, true) ++ (0, false) ∷ []) (log ++ announced ∷ []) =
           subst (λ m. Holds eq hash place (set cs 0 (m, true) ++ (0, false) ∷ []) (log ++ announced ∷ [])) one_more
-          (announcing_holds eq hash place divided log holds.1 cs holds.0 ticket segment size grown next small) in (
+          (announcing_holds eq hash place divided log holds.1 cs holds.0 ticket segment size grown next small low_now) in (
             adds,
             announced ∷ [],
             None,
@@ -80,10 +93,10 @@ module _ {K V S : Type 0} (eq : K → K → Bool) (hash : S → K → ℕ) (plac
               added = record { log = log; begins = pre; was_kept = holds.1; there = there eq hash place cs log holds 0 door_home.1; more = refl; kept = then.1 };
               makes = refl;
               cell = (
-                announcing_cell eq hash place divided log holds.1 cs holds.0 ticket segment size grown next small,
-                announcing_plan eq hash place divided log holds.1 cs holds.0 ticket segment size grown next small,
+                announcing_cell eq hash place divided log holds.1 cs holds.0 ticket segment size grown next small low_now,
+                announcing_plan eq hash place divided log holds.1 cs holds.0 ticket segment size grown next small low_now,
               );
-              entries = announcing_entries eq hash place divided log holds.1 cs holds.0 ticket segment size grown next small;
+              entries = announcing_entries eq hash place divided log holds.1 cs holds.0 ticket segment size grown next small low_now;
             }),
           )
       draws false e = (
@@ -116,9 +129,9 @@ module _ {K V S : Type 0} (eq : K → K → Bool) (hash : S → K → ℕ) (plac
         by ticket (inl (c, there_now, stays)) =
             let held = cell_now eq hash place log holds.1 cs holds.0 key (Row ticket c) there_now in
             (held.0, ap (λ x. x.1) held.1 ∙ stays refl)
-        by ticket (inr (w, there_now, own)) =
-            let held = cell_now eq hash place log holds.1 cs holds.0 key (Bucket w) there_now in
-            (held.0, ap (λ x. x.1) held.1)
+        by ticket (inr (o, there_now, is, own)) =
+            let held = cell_now eq hash place log holds.1 cs holds.0 key o there_now in
+            (held.0, ap (λ x. x.1) held.1 ∙ of_array_home (drawn (state_of log)) o is)
 
     -- the exchange leaves the cells
     left_cells : (left : ℕ) → set cs key (either ((cell cs key).0 == left) left (cell cs key).0, true) ≡ cs
@@ -163,9 +176,9 @@ module _ {K V S : Type 0} (eq : K → K → Bool) (hash : S → K → ℕ) (plac
             let held = cell_now eq hash place log holds.1 cs holds.0 own (Row ticket c) there_now in
             let is_away : c ≡ false = sym (ap (λ y. y.1) held.1) ∙ (away refl).1 in
             there_now ∙ ap (λ y. Some (Row ticket y)) is_away
-        by (inr (w, there_now, home_now)) =
-            let held = cell_now eq hash place log holds.1 cs holds.0 own (Bucket w) there_now in
-            absurd (false≢true (sym (away refl).1 ∙ ap (λ y. y.1) held.1))
+        by (inr (o, there_now, of_array, home_now)) =
+            let held = cell_now eq hash place log holds.1 cs holds.0 own o there_now in
+            absurd (false≢true (sym (away refl).1 ∙ (ap (λ y. y.1) held.1 ∙ of_array_home (drawn (state_of log)) o of_array)))
 
     pub cell_bringing_moves : Moves (Holds eq hash place) shown moved key (front, (nib may_write own 1, None)) (λ n. either (n == left) left n)
         (BringsHome eq hash place (step key left left (CellHome ticket own)) (front, (nib may_write own 1, None)))
@@ -218,17 +231,17 @@ module _ {K V S : Type 0} (eq : K → K → Bool) (hash : S → K → ℕ) (plac
       home : (cell cs bucket).1 ≡ true
       home = ap (λ y. y.1) held.1
 
-      is_root : array ≡ suc segment
-      is_root = first_get (suc segment) ((state_of front).links segment) rooted.place array rooted.before rooted.there
+      rooted_now : IsRooted now segment array
+      rooted_now = rooted_through eq (place kept.hasher kept.segments) (state_of front) now (lasts_now eq hash place log kept front seen) segment array
+          (record { within = within; rooted = rooted })
 
       now_small : IsSmall (word_at (words_in now array) index)
-      now_small n names = (words_have_pairs eq hash place log kept segment (subst (λ m. segment < m) (segments_are eq hash place log kept) within_now) index n
-          (ap (λ a. node_of (word_at (words_in now a) index)) (sym is_root) ∙ names)).3
+      now_small n names = (words_have_pairs eq hash place log kept segment array rooted_now index n names).3
 
       open_now : word_at (words_in now array) index ≡ word → IsBare now segment array index word
       open_now found = record {
         within = within_now;
-        rooted = record { place = 0; before = omega arith; there = ap Some (sym is_root) };
+        rooted = rooted_now.rooted;
         inside = (let inside = get_below (now.arrays array) index bucket row_there in let long = length-map (now.arrays array) (word_in now.cells) in omega (arith, inside, long));
         there = found;
         bare = bare;

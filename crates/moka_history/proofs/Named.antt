@@ -1,5 +1,5 @@
 -- Words of a good state name pairs of their segment.
-use Rattle.std.proofs.Common.{◌≡◌, ℕ, ◌<◌, ◌==◌, Bool, true, false, List, Option, Some, None, suc, refl, arith, if◌then◌else◌}
+use Rattle.std.proofs.Common.{◌≡◌, ℕ, ◌==◌, Bool, true, false, List, Option, Some, None, refl, if◌then◌else◌}
 use Rattle.std.proofs.lemmas.Bool.{eqb-true, false≢true}
 use Rattle.std.specs.Option.{is_some}
 use Rattle.moka_words.specs.Words.{node_of, word_at}
@@ -9,7 +9,7 @@ use Rattle.moka_pairs.specs.Pairs.{key_if}
 use Rattle.moka_pairs.proofs.Names.{agrees_now}
 use Rattle.moka_history.specs.Entries.{Entry}
 use Rattle.moka_history.specs.States.{State, words_in}
-use Rattle.moka_history.specs.Rules.{keys_of, IsGood}
+use Rattle.moka_history.specs.Rules.{keys_of, IsGood, IsRooted}
 
 -- the pair of a number whose key is one of the segment
 pair_of_own : {K V : Type 0} (place : K → ℕ) (i : ℕ) (o : Option (K × V)) → is_some (key_if (λ k. place k == i) o) ≡ true →
@@ -21,14 +21,14 @@ pair_of_own {K} {V} place i (Some p) e = (p, refl, by (place p.0 == i) refl e)
     by true is f = eqb-true (place p.0) i is
     by false is f = absurd (false≢true f)
 
-module _ {K V : Type 0} (eq : K → K → Bool) (hash place : K → ℕ) (s : State K V) (es : List (Entry K V)) (good : IsGood eq hash place s es) (i : ℕ)
-    (below : i < s.segments) where
+module _ {K V : Type 0} (eq : K → K → Bool) (hash place : K → ℕ) (s : State K V) (es : List (Entry K V)) (good : IsGood eq hash place s es) (i a : ℕ)
+    (r : IsRooted s i a) where
   abbrev known : ℕ → Option K
   known = keys_of place s i
 
-  -- the array of the segment
-  pub array_is : IsRoot (hash_by hash known) (same_by eq known) (mine_by known) (words_in s (suc i))
-  array_is = (good.sound i below known (agrees_now known)).roots 0 (suc i) (omega arith) refl
+  -- an array of the segment that is its root, or was it
+  pub array_is : IsRoot (hash_by hash known) (same_by eq known) (mine_by known) (words_in s a)
+  array_is = (good.sound i r.within known (agrees_now known)).roots r.rooted.place a r.rooted.before r.rooted.there
 
-  pub word_names : (index n : ℕ) → node_of (word_at (words_in s (suc i)) index) ≡ Some n → (p : K × V) × (s.pairs n ≡ Some p) × (place p.0 ≡ i)
+  pub word_names : (index n : ℕ) → node_of (word_at (words_in s a) index) ≡ Some n → (p : K × V) × (s.pairs n ≡ Some p) × (place p.0 ≡ i)
   word_names index n named = pair_of_own place i (s.pairs n) (array_is.keys index n named)

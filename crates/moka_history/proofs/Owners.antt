@@ -6,9 +6,10 @@ use Rattle.std.specs.List.{slice_get}
 use Rattle.std.specs.Option.{option_map}
 use Rattle.logbook.specs.Pages.{Cell, cell}
 use Rattle.moka_words.specs.declared.words.Word.{Word}
-use Rattle.moka_history.specs.States.{Owner, Door, Bucket, Ticket, Array, Row, Next, spent}
+use Rattle.moka_history.specs.States.{Owner, Door, Bucket, Ticket, Array, Row, Next, Root, spent}
 use Rattle.moka_history.specs.Cells.{number_of, cell_of}
 use Rattle.moka_history.proofs.Lists.{no_item, one_item, set_get, other_get, unmap_get, map_get, map_set}
+use Rattle.moka_history.proofs.Swung.{root_not_array, root_not_bucket, root_not_door, root_not_next, root_not_row, root_not_ticket}
 
 -- a cell of this owner stays, and stays home
 abbrev pub Stays : (ℕ → Bool → Owner) → (old new : List Owner) → Type 0
@@ -92,6 +93,7 @@ others_stay (Ticket n b ∷ os) d e none = ap (λ cs. (0, b) ∷ cs) (others_sta
 others_stay (Array n b ∷ os) d e none = ap (λ cs. (0, b) ∷ cs) (others_stay os d e (λ k. none (suc k)))
 others_stay (Row n b ∷ os) d e none = ap (λ cs. (cond b 1 0, b) ∷ cs) (others_stay os d e (λ k. none (suc k)))
 others_stay (Next a t ∷ os) d e none = ap (λ cs. (t, true) ∷ cs) (others_stay os d e (λ k. none (suc k)))
+others_stay (Root i t ∷ os) d e none = ap (λ cs. (t, true) ∷ cs) (others_stay os d e (λ k. none (suc k)))
 
 -- the door's cell counts another number
 pub door_counts : (os : List Owner) (d e : ℕ) → slice_get os 0 ≡ Some Door → ((k : ℕ) → slice_get os k ≡ Some Door → k ≡ 0) →
@@ -112,6 +114,7 @@ module _ (t : ℕ) where
   spent_other (Array n b) other = refl
   spent_other (Row n b) other = refl
   spent_other (Next a u) other = refl
+  spent_other (Root i u) other = refl
 
   all_other : (os : List Owner) → ((k : ℕ) (b : Bool) → slice_get os k ≡ Some (Ticket t b) → ⊥) → map (spent t) os ≡ os
   all_other [] none = refl
@@ -139,6 +142,7 @@ module _ (t : ℕ) where
   unspent_door (Array n b) e = absurd (door_not_array e)
   unspent_door (Row n b) e = absurd (door_not_row e)
   unspent_door (Next a u) e = absurd (door_not_next e)
+  unspent_door (Root i u) e = absurd (root_not_door (sym e))
 
   pub unspent_ticket : (o : Owner) (n : ℕ) (b : Bool) → Ticket n b ≡ spent t o → (c : Bool) × (o ≡ Ticket n c) × (b ≡ cond (n == t) true c)
   unspent_ticket Door n b e = absurd (door_not_ticket (sym e))
@@ -146,6 +150,7 @@ module _ (t : ℕ) where
   unspent_ticket (Array m c) n b e = absurd (array_not_ticket (sym e))
   unspent_ticket (Row m c) n b e = absurd (row_not_ticket (sym e))
   unspent_ticket (Next a u) n b e = absurd (next_not_ticket (sym e))
+  unspent_ticket (Root i u) n b e = absurd (root_not_ticket (sym e))
   unspent_ticket (Ticket m c) n b e = by (cc (e)) (cc (e))
     where
       by : n ≡ m → b ≡ cond (m == t) true c → (c' : Bool) × (Ticket m c ≡ Ticket n c') × (b ≡ cond (n == t) true c')
@@ -158,6 +163,7 @@ module _ (t : ℕ) where
   unspent_array (Array m c) n b e = sym e
   unspent_array (Row m c) n b e = absurd (array_not_row e)
   unspent_array (Next a u) n b e = absurd (next_not_array (sym e))
+  unspent_array (Root i u) n b e = absurd (root_not_array (sym e))
 
   pub unspent_row : (o : Owner) (n : ℕ) (b : Bool) → Row n b ≡ spent t o → o ≡ Row n b
   unspent_row Door n b e = absurd (door_not_row (sym e))
@@ -166,6 +172,7 @@ module _ (t : ℕ) where
   unspent_row (Array m c) n b e = absurd (array_not_row (sym e))
   unspent_row (Row m c) n b e = sym e
   unspent_row (Next a u) n b e = absurd (next_not_row (sym e))
+  unspent_row (Root i u) n b e = absurd (root_not_row (sym e))
 
   pub unspent_next : (o : Owner) (a u : ℕ) → Next a u ≡ spent t o → o ≡ Next a u
   unspent_next Door a u e = absurd (door_not_next (sym e))
@@ -174,6 +181,16 @@ module _ (t : ℕ) where
   unspent_next (Array m c) a u e = absurd (next_not_array e)
   unspent_next (Row m c) a u e = absurd (next_not_row e)
   unspent_next (Next b v) a u e = sym e
+  unspent_next (Root i v) a u e = absurd (root_not_next (sym e))
+
+  pub unspent_root : (o : Owner) (i u : ℕ) → Root i u ≡ spent t o → o ≡ Root i u
+  unspent_root Door i u e = absurd (root_not_door e)
+  unspent_root (Bucket w) i u e = absurd (root_not_bucket e)
+  unspent_root (Ticket m c) i u e = absurd (root_not_ticket e)
+  unspent_root (Array m c) i u e = absurd (root_not_array e)
+  unspent_root (Row m c) i u e = absurd (root_not_row e)
+  unspent_root (Next a v) i u e = absurd (root_not_next e)
+  unspent_root (Root j v) i u e = sym e
 
 -- the owners after a change of the bucket k
 module _ (t k : ℕ) (to : Word) (os : List Owner) where

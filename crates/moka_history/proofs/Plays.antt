@@ -20,12 +20,13 @@ use Rattle.moka_history.specs.declared.note.Note.TheVariants.{Announced, Changed
 use Rattle.moka_history.specs.States.{Ticket, State, key_at, memory_of, words_in}
 use Rattle.moka_history.specs.Logs.{entry_of, entry_with, state_of}
 use Rattle.moka_history.specs.Cells.{drawn, number_of}
-use Rattle.moka_history.specs.Rules.{keys_of, IsFront, IsOpenedFor, IsKept, Holds}
+use Rattle.moka_history.specs.Rules.{keys_of, IsFront, IsRooted, IsOpenedFor, IsKept, Holds}
 use Rattle.moka_history.specs.Keeping.{Comes, IsDivided, IsSmall}
 use Rattle.moka_history.specs.Moving.{Announces, Changes, HoldsThere, IsPlace, Looks, moved, shown}
 use Rattle.moka_history.proofs.Fronts.{cell_now, cells_now, fits_more, fits_still, good_now, lasts_now, opened_too, segments_are, words_have_pairs}
-use Rattle.moka_history.proofs.Lists.{first_get, get_or}
+use Rattle.moka_history.proofs.Lists.{get_or}
 use Rattle.moka_history.proofs.Numbers.{numbers_tell}
+use Rattle.moka_history.proofs.Resting.{rooted_through}
 use Rattle.moka_history.proofs.Owners.{set_same}
 use Rattle.moka_history.proofs.Stepping.{announcing_holds, changing_holds}
 
@@ -142,15 +143,6 @@ module _ {K V S : Type 0} (eq : K → K → Bool) (hash : S → K → ℕ) (plac
       some : 0 < length front
       some = subst (λ l. 0 < length l) (sym opened.1) (omega arith)
 
-      -- the bucket is one of the array of the call's segment
-      is_root : array ≡ suc (place hasher segments key)
-      is_root =
-          let p = place hasher segments in
-          let known = keys_of p (state_of front) (p key) in
-          let rooted = (subst (λ q. FitsAt (hash_by (hash hasher) known) (own_for eq known (Some key)) c.hash (memory_of (state_of front) (p key)) q) x.comes
-          (x.fits known (agrees_now known))).0.rooted in
-          first_get (suc (p key)) ((state_of front).links (p key)) rooted.place array rooted.before rooted.there
-
       module _ (cs : List Cell) (log : List (Note K V S)) (holds : Holds eq hash place cs log) (pre : IsPrefix front log)
           (away : Away (nib may_write own 0) cs) where
         abbrev now : State K V
@@ -172,8 +164,14 @@ module _ {K V S : Type 0} (eq : K → K → Bool) (hash : S → K → ℕ) (plac
         came = subst (λ s. Comes eq (hash s) (place s kept.segments) (state_of front) key c array length_is passed from to) same.1
             (subst (λ n. Comes eq (hash hasher) (place hasher n) (state_of front) key c array length_is passed from to) same.0 x)
 
-        root_now : array ≡ suc (Place key)
-        root_now = is_root ∙ ap (λ n. suc (place hasher n key)) same.0 ∙ ap (λ s. suc (place s kept.segments key)) same.1
+        -- the bucket is one of an array of the call's segment that is its root, or was it
+        root_now : IsRooted now (Place key) array
+        root_now =
+            let known = keys_of Place (state_of front) (Place key) in
+            let rooted = (subst (λ q. FitsAt (hash_by (hash kept.hasher) known) (own_for eq known (Some key)) c.hash (memory_of (state_of front) (Place key)) q) came.comes
+            (came.fits known (agrees_now known))).0.rooted in
+            rooted_through eq Place (state_of front) now (lasts_now eq hash place log kept front seen) (Place key) array
+            (record { within = came.within; rooted = rooted })
 
         within : Place key < kept.segments
         within = subst (λ n. Place key < n) (sym (lasts_now eq hash place log kept front seen).segments ∙ segments_are eq hash place log kept) came.within
@@ -206,8 +204,7 @@ module _ {K V S : Type 0} (eq : K → K → Bool) (hash : S → K → ℕ) (plac
             there_now ∙ ap (λ y. Some (Ticket ticket y)) is_away
 
         now_small : IsSmall (word_at (words_in now array) index)
-        now_small n names = (words_have_pairs eq hash place log kept (Place key) within index n
-            (ap (λ a. node_of (word_at (words_in now a) index)) (sym root_now) ∙ names)).3
+        now_small n names = (words_have_pairs eq hash place log kept (Place key) array root_now index n names).3
 
         changes : (b : Bool) → ((cell cs bucket).0 == number_of from) ≡ b →
             Goes (Holds eq hash place) shown moved bucket (front, (nib may_write own 0, None)) (λ n. either (n == number_of from) (number_of to) n)

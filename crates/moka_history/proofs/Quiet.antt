@@ -1,5 +1,5 @@
 -- Steps that leave all words, pairs and entries.
-use Rattle.std.proofs.Common.{◌≡◌, ℕ, ◌≤◌, Bool, List, Option, Some, suc, refl, sym, ap, ◌∙◌, arith}
+use Rattle.std.proofs.Common.{◌≡◌, ℕ, ◌≤◌, Bool, List, Option, Some, refl, sym, ap, ◌∙◌, arith}
 use Rattle.std.specs.Cmp.{IsEquivalence}
 use Rattle.std.specs.List.{slice_get}
 use Rattle.moka_words.specs.Words.{node_of, word_at}
@@ -8,10 +8,11 @@ use Rattle.moka_pairs.specs.Keys.{Agrees, Respects}
 use Rattle.moka_pairs.proofs.Names.{agrees_now}
 use Rattle.moka_history.specs.Entries.{Entry}
 use Rattle.moka_words.specs.declared.words.Word.{Word}
-use Rattle.moka_history.specs.States.{Owner, Bucket, Ticket, Array, Row, Next, Plan, State, memory_of, words_in}
+use Rattle.moka_history.specs.States.{Owner, Bucket, Ticket, Array, Row, Next, Root, Plan, State, memory_of, words_in}
 use Rattle.moka_history.specs.Rules.{AreLinked, IsOwned, IsDrawn, IsGood, IsRowStill, Lasts}
 use Rattle.moka_history.proofs.Owners.{Stays}
 use Rattle.moka_history.proofs.Resting.{rests_sound, rests_later, rests_map}
+use Rattle.moka_history.proofs.Rooted.{was_rooted}
 
 -- the state with other plans and cells
 abbrev pub quiet : {K V : Type 0} → State K V → (last : ℕ) → (ℕ → Option Plan) → List Owner → State K V
@@ -32,7 +33,8 @@ module _ {K V : Type 0} (eq : K → K → Bool) (laws : IsEquivalence eq) (hash 
     drawn = drawn;
     linked = linked;
     sound = λ i below. rests_sound eq laws hash place respects s new (agrees_now s.pairs) i (good.sound i below) (elsewhere i);
-    puts = λ i index n p below named at. good.puts i index n p below (sym (ap (λ ws. node_of (word_at ws index)) (words (suc i))) ∙ named) at;
+    puts = λ i a index n p r named at. good.puts i a index n p (was_rooted s new i a refl refl refl r)
+        (sym (ap (λ ws. node_of (word_at ws index)) (words a)) ∙ named) at;
     legal = good.legal;
     map_is = λ q below. good.map_is q below
         ∙ sym (rests_map eq laws hash place respects s new (agrees_now s.pairs) (place q) (good.sound (place q) below) (elsewhere (place q)) q);
@@ -41,8 +43,9 @@ module _ {K V : Type 0} (eq : K → K → Bool) (laws : IsEquivalence eq) (hash 
   pub quiet_lasts : Agrees plans s.plans → Stays Ticket s.cells cells → Stays Array s.cells cells →
       ((k n : ℕ) (b : Bool) → slice_get s.cells k ≡ Some (Row n b) → IsRowStill new k n b) →
       ((k : ℕ) (w : Word) → slice_get s.cells k ≡ Some (Bucket w) → (v : Word) × (slice_get cells k ≡ Some (Bucket v))) →
-      ((k a t : ℕ) → slice_get s.cells k ≡ Some (Next a t) → (u : ℕ) × (slice_get cells k ≡ Some (Next a u))) → Lasts eq place s new
-  quiet_lasts grows tickets announced rows buckets nexts = record {
+      ((k a t : ℕ) → slice_get s.cells k ≡ Some (Next a t) → (u : ℕ) × (slice_get cells k ≡ Some (Next a u))) →
+      ((k i t : ℕ) → slice_get s.cells k ≡ Some (Root i t) → (u : ℕ) × (slice_get cells k ≡ Some (Root i u))) → Lasts eq place s new
+  quiet_lasts grows tickets announced rows buckets nexts roots = record {
     segments = refl;
     last = low;
     arrays = λ a i k e. e;
@@ -51,6 +54,7 @@ module _ {K V : Type 0} (eq : K → K → Bool) (laws : IsEquivalence eq) (hash 
     rows = rows;
     buckets = buckets;
     nexts = nexts;
+    roots = roots;
     pairs = agrees_now s.pairs;
     plans = grows;
     later = λ i below. rests_later eq laws hash place respects s new (agrees_now s.pairs) i (good.sound i below) (elsewhere i);

@@ -1,6 +1,7 @@
 -- Segments whose words a step leaves, and what lasts through steps.
-use Rattle.std.proofs.Common.{◌≡◌, ℕ, ◌<◌, ◌==◌, Bool, true, List, [], ◌∷◌, ◌++◌, length, Option, Some, suc, inl, inr, refl, sym, ap, subst, ◌∙◌, arith}
+use Rattle.std.proofs.Common.{◌≡◌, ℕ, ◌<◌, ◌==◌, Bool, true, List, [], ◌∷◌, ◌++◌, length, Option, Some, inl, inr, refl, sym, ap, subst, ◌∙◌, arith}
 use Rattle.std.specs.Cmp.{IsEquivalence}
+use Rattle.std.specs.List.{slice_get}
 use mathlib.Core.List.{IsPrefix}
 use Rattle.moka_words.specs.declared.words.Word.{Word}
 use Rattle.moka_words.specs.Words.{is_sealed, word_at}
@@ -18,9 +19,9 @@ use Rattle.moka_pairs.proofs.Mapped.{map_kept}
 use Rattle.moka_pairs.proofs.Steps.{later_same}
 use Rattle.moka_history.specs.declared.note.Note.{Note}
 use Rattle.moka_history.specs.declared.note.Note.TheVariants.{Sealed}
-use Rattle.moka_history.specs.States.{Array, State, memory_of, words_in}
+use Rattle.moka_history.specs.States.{Owner, Door, Bucket, Ticket, Array, Row, Next, Root, State, memory_of, words_in}
 use Rattle.moka_history.specs.Logs.{entries_of, state_of}
-use Rattle.moka_history.specs.Rules.{keys_of, pair_in, IsGood, IsRowStill, Lasts, IsFront, IsSameOrSealed, NamesSeal, IsKept}
+use Rattle.moka_history.specs.Rules.{keys_of, pair_in, IsGood, IsOfArray, IsRooted, IsRowStill, Lasts, IsFront, IsSameOrSealed, NamesSeal, IsKept}
 use Rattle.moka_history.specs.Keeping.{IsDivided}
 use Rattle.moka_history.proofs.Folds.{entries_grow}
 use Rattle.moka_history.proofs.Lists.{front_get, prefix_more, prefix_self}
@@ -32,10 +33,33 @@ row_through eq place b c then k n x (inl (y, at, home)) = elim (then.rows k n y 
   | inl still ↦ inl (still.0, still.1, λ h. still.2 (home h))
   | inr made ↦ inr made
 ]
-row_through eq place b c then k n x (inr (w, at, (own, there))) =
-    let (v, at_yet) = then.buckets k w at in
+row_through eq place b c then k n x (inr (o, at, is, (own, there))) =
     let (z, there_yet, home) = then.announced own n true there in
-    inr (v, at_yet, (own, there_yet ∙ ap (λ d. Some (Array n d)) (home refl)))
+    let (p, at_yet, is_yet) = of_array o at is in
+    inr (p, at_yet, is_yet, (own, there_yet ∙ ap (λ d. Some (Array n d)) (home refl)))
+  where
+    of_array : (o : Owner) → slice_get b.cells k ≡ Some o → IsOfArray o → (p : Owner) × (slice_get c.cells k ≡ Some p) × IsOfArray p
+    of_array Door at is = absurd is
+    of_array (Bucket w) at is = let (v, at_yet) = then.buckets k w at in (Bucket v, at_yet, tt)
+    of_array (Ticket m h) at is = absurd is
+    of_array (Array m h) at is = absurd is
+    of_array (Row m h) at is = absurd is
+    of_array (Next a t) at is = let (u, at_yet) = then.nexts k a t at in (Next a u, at_yet, tt)
+    of_array (Root i t) at is = absurd is
+
+-- an array that was a root
+pub rooted_through : {K V : Type 0} (eq : K → K → Bool) (place : K → ℕ) (b c : State K V) → Lasts eq place b c → (i a : ℕ) → IsRooted b i a →
+    IsRooted c i a
+rooted_through eq place b c then i a r =
+    let later = then.later i r.within (keys_of place c i) (agrees_now (keys_of place c i)) in
+    record {
+      within = subst (λ n. i < n) (sym then.segments) r.within;
+      rooted = record {
+        place = r.rooted.place;
+        before = let low = r.rooted.before in let more = later.rooted in omega (arith, low, more);
+        there = later.arrays r.rooted.place a r.rooted.there;
+      };
+    }
 
 module _ {K V : Type 0} (eq : K → K → Bool) (laws : IsEquivalence eq) (hash place : K → ℕ) (respects : Respects eq hash) where
   -- a segment that a step leaves stays sound, and its map as it was, while more numbers get pairs
@@ -73,6 +97,7 @@ module _ {K V : Type 0} (eq : K → K → Bool) (laws : IsEquivalence eq) (hash 
     rows = λ k n b e. inl (b, e, λ h. h);
     buckets = λ k w e. (w, e);
     nexts = λ k a t e. (t, e);
+    roots = λ k i t e. (t, e);
     pairs = agrees_now s.pairs;
     plans = agrees_now s.plans;
     later = λ i below. later_same eq laws hash respects (keys_of place s i) (memory_of s i);
@@ -94,6 +119,7 @@ module _ {K V : Type 0} (eq : K → K → Bool) (laws : IsEquivalence eq) (hash 
     rows = λ k n x e. row_through eq place b c then k n x (first.rows k n x e);
     buckets = λ k w e. (let (v, at) = first.buckets k w e in then.buckets k v at);
     nexts = λ k n t e. (let (u, at) = first.nexts k n t e in then.nexts k n u at);
+    roots = λ k i t e. (let (u, at) = first.roots k i t e in then.roots k i u at);
     pairs = agrees_through c.pairs b.pairs a.pairs then.pairs first.pairs;
     plans = agrees_through c.plans b.plans a.plans then.plans first.plans;
     later = λ i below keys agrees. later_memory_goes_on (hash_by hash keys) (same_by eq keys) (memory_of a i) (memory_of b i) (memory_of c i)
@@ -124,8 +150,8 @@ module _ {K V S : Type 0} (eq : K → K → Bool) (hash : S → K → ℕ) (plac
   Longer = log ++ note ∷ []
 
   module _ (good : IsGood eq (hash kept.hasher) Place (state_of Longer) (entries_of Longer)) (lasts : Lasts eq Place (state_of log) (state_of Longer))
-      (rests_words : length (entries_of Longer) ≡ length (entries_of log) → (i index : ℕ) → i < kept.segments →
-      IsSameOrSealed (word_at (words_in (state_of log) (suc i)) index) (word_at (words_in (state_of Longer) (suc i)) index))
+      (rests_words : length (entries_of Longer) ≡ length (entries_of log) → (i a index : ℕ) → IsRooted (state_of log) i a →
+      IsSameOrSealed (word_at (words_in (state_of log) a) index) (word_at (words_in (state_of Longer) a) index))
       (named : (array index : ℕ) → is_sealed (word_at (words_in (state_of Longer) array) index) ≡ true →
       NamesSeal array index (word_at (words_in (state_of Longer) array) index) Longer) where
     same : (s : State K V) → Lasts eq Place s s
@@ -141,25 +167,26 @@ module _ {K V S : Type 0} (eq : K → K → Bool) (hash : S → K → ℕ) (plac
       | inr e ↦ subst (λ l. Lasts eq Place (state_of front) (state_of l)) e (same (state_of front))
     ]
 
-    -- words of first arrays change by entries and seals alone
-    abbrev Stays : (front next : List (Note K V S)) (i index : ℕ) → Type 0
-    Stays front next i index = IsSameOrSealed (word_at (words_in (state_of front) (suc i)) index) (word_at (words_in (state_of next) (suc i)) index)
+    -- words of arrays that have been roots change by entries and seals alone
+    abbrev Stays : (front next : List (Note K V S)) (a index : ℕ) → Type 0
+    Stays front next a index = IsSameOrSealed (word_at (words_in (state_of front) a) index) (word_at (words_in (state_of next) a) index)
 
-    still_log : (front : List (Note K V S)) → IsFront front log → length (entries_of Longer) ≡ length (entries_of front) → (i index : ℕ) →
-        i < kept.segments → Stays front Longer i index
-    still_log front is equal i index below =
+    still_log : (front : List (Note K V S)) → IsFront front log → length (entries_of Longer) ≡ length (entries_of front) → (i a index : ℕ) →
+        IsRooted (state_of front) i a → Stays front Longer a index
+    still_log front is equal i a index rooted =
         let some = entries_grow front log is.begins in
         let more = entries_grow log Longer (note ∷ [], refl) in
-        stays_through (word_at (words_in (state_of front) (suc i)) index) (word_at (words_in (state_of log) (suc i)) index)
-        (word_at (words_in (state_of Longer) (suc i)) index)
-        (kept.still front log is (prefix_self log) (omega (arith, equal, some, more)) i index below)
-        (rests_words (omega (arith, equal, some, more)) i index below)
+        stays_through (word_at (words_in (state_of front) a) index) (word_at (words_in (state_of log) a) index)
+        (word_at (words_in (state_of Longer) a) index)
+        (kept.still front log is (prefix_self log) (omega (arith, equal, some, more)) i a index rooted)
+        (rests_words (omega (arith, equal, some, more)) i a index
+        (rooted_through eq Place (state_of front) (state_of log) (kept.lasts front log is (prefix_self log)) i a rooted))
 
-    still_longer : (front : List (Note K V S)) → IsFront front Longer → length (entries_of Longer) ≡ length (entries_of front) → (i index : ℕ) →
-        i < kept.segments → Stays front Longer i index
-    still_longer front is equal i index below = elim (prefix_more front log note is.begins) [
-      | inl old ↦ still_log front (record { some = is.some; begins = old }) equal i index below
-      | inr e ↦ inl (ap (λ l. word_at (words_in (state_of l) (suc i)) index) (sym e))
+    still_longer : (front : List (Note K V S)) → IsFront front Longer → length (entries_of Longer) ≡ length (entries_of front) → (i a index : ℕ) →
+        IsRooted (state_of front) i a → Stays front Longer a index
+    still_longer front is equal i a index rooted = elim (prefix_more front log note is.begins) [
+      | inl old ↦ still_log front (record { some = is.some; begins = old }) equal i a index rooted
+      | inr e ↦ inl (ap (λ l. word_at (words_in (state_of l) a) index) (sym e))
     ]
 
     pub longer_kept : IsKept eq hash place Longer
@@ -177,11 +204,11 @@ module _ {K V S : Type 0} (eq : K → K → Bool) (hash : S → K → ℕ) (plac
         | inr e ↦ subst (λ l. Lasts eq Place (state_of front) (state_of l)) (sym e)
             (to_longer front (record { some = is.some; begins = subst (λ l. IsPrefix front l) e is.begins }))
       ];
-      still = λ front next is begins equal i index below. elim (prefix_more next log note begins) [
-        | inl old ↦ kept.still front next is old equal i index below
-        | inr e ↦ subst (λ l. Stays front l i index) (sym e)
+      still = λ front next is begins equal i a index rooted. elim (prefix_more next log note begins) [
+        | inl old ↦ kept.still front next is old equal i a index rooted
+        | inr e ↦ subst (λ l. Stays front l a index) (sym e)
             (still_longer front (record { some = is.some; begins = subst (λ l. IsPrefix front l) e is.begins })
-            (ap (λ l. length (entries_of l)) (sym e) ∙ equal) i index below)
+            (ap (λ l. length (entries_of l)) (sym e) ∙ equal) i a index rooted)
       ];
       seals = λ front is. elim (prefix_more front log note is.begins) [
         | inl old ↦ kept.seals front (record { some = is.some; begins = old })

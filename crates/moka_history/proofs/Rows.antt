@@ -9,9 +9,9 @@ use Rattle.moka_hist.specs.Finite.{put_at}
 use Rattle.moka_pairs.specs.Keys.{Agrees, Respects}
 use Rattle.moka_pairs.proofs.Names.{agrees_now}
 use Rattle.moka_history.specs.declared.note.Note.{Note}
-use Rattle.moka_history.specs.declared.note.Note.TheVariants.{Opened, Announced, Changed, ArrayAnnounced, CellAdded, CellHome, Sealed, ArrayLinked, Copied}
+use Rattle.moka_history.specs.declared.note.Note.TheVariants.{Opened, Announced, Changed, ArrayAnnounced, CellAdded, CellHome, Sealed, ArrayLinked, Copied, Swung}
 use Rattle.moka_history.specs.Entries.{Entry}
-use Rattle.moka_history.specs.States.{Owner, Door, Bucket, Ticket, Array, Row, Next, Plan, State, IsPlaced, after, word_in, words_in}
+use Rattle.moka_history.specs.States.{Owner, Door, Bucket, Ticket, Array, Row, Next, Root, Plan, State, IsPlaced, after, word_in, words_in}
 use Rattle.moka_history.specs.Laws.{IsOfRow}
 use Rattle.moka_history.specs.Rules.{AreLinked, IsOwned, IsDrawn, IsGood, Lasts}
 use Rattle.moka_history.proofs.Cells.{set_length, word_beside, word_front, words_same}
@@ -19,6 +19,7 @@ use Rattle.moka_history.proofs.Lists.{no_item, one_item, front_get, get_below, m
 use Rattle.moka_history.proofs.Chains.{links_stay}
 use Rattle.moka_history.proofs.Owners.{Stays, array_is_array, array_not_row, array_not_ticket, door_not_array, door_not_row, next_not_array, next_not_row, row_is_row, row_not_bucket, row_not_ticket}
 use Rattle.moka_history.proofs.Quiet.{quiet, quiet_good, quiet_lasts}
+use Rattle.moka_history.proofs.Swung.{root_not_array, root_not_row}
 
 -- a cell that holds an owner is another one than a cell that holds another
 apart_at : {A : Type 0} (xs : List A) (j k : ℕ) (x y : A) → slice_get xs j ≡ Some x → slice_get xs k ≡ Some y → (x ≡ y → ⊥) → j ≢ k
@@ -71,8 +72,9 @@ rows_keep s (Opened segments size hasher) placed is = absurd is
 rows_keep s (Announced ticket pair) placed is = absurd is
 rows_keep s (Changed ticket array index to) placed is = absurd is
 rows_keep s (Sealed array index to) placed is = absurd is
-rows_keep s (ArrayLinked ticket segment grown keys) placed is = absurd is
+rows_keep s (ArrayLinked ticket segment grown keys behind) placed is = absurd is
 rows_keep s (Copied array index to) placed is = absurd is
+rows_keep s (Swung segment from to) placed is = absurd is
 
 module _ {K V : Type 0} (S : Type 0) (eq : K → K → Bool) (laws : IsEquivalence eq) (hash place : K → ℕ) (respects : Respects eq hash)
     (s : State K V) (es : List (Entry K V)) (good : IsGood eq hash place s es) where
@@ -96,22 +98,24 @@ module _ {K V : Type 0} (S : Type 0) (eq : K → K → Bool) (laws : IsEquivalen
     grown_lasts : (last : ℕ) (plans : ℕ → Option Plan) → s.last ≤ last → Agrees plans s.plans → Lasts eq place s (quiet s last plans (s.cells ++ x ∷ []))
     grown_lasts last plans low grows = quiet_lasts eq laws hash place respects s es good last plans (s.cells ++ x ∷ []) (grown_words s owned.places last plans x)
         low grows (stays Ticket) (stays Array) (λ k n b e. inl (stays Row k n b e)) (λ k w e. (w, front_get s.cells (x ∷ []) k (Bucket w) e))
-        (λ k a t e. (t, front_get s.cells (x ∷ []) k (Next a t) e))
+        (λ k a t e. (t, front_get s.cells (x ∷ []) k (Next a t) e)) (λ k i t e. (t, front_get s.cells (x ∷ []) k (Root i t) e))
 
-    grown_owned : (last : ℕ) (plans : ℕ → Option Plan) → (Door ≡ x → ⊥) → ((n : ℕ) (b : Bool) → Ticket n b ≡ x → ⊥) → ((a t : ℕ) → Next a t ≡ x → ⊥) →
+    grown_owned : (last : ℕ) (plans : ℕ → Option Plan) → (Door ≡ x → ⊥) → ((n : ℕ) (b : Bool) → Ticket n b ≡ x → ⊥) → ((a t : ℕ) → Next a t ≡ x → ⊥) → ((i t : ℕ) → Root i t ≡ x → ⊥) →
         ((j k n : ℕ) (b c : Bool) → slice_get (s.cells ++ x ∷ []) j ≡ Some (Array n b) → slice_get (s.cells ++ x ∷ []) k ≡ Some (Array n c) → j ≡ k) →
         IsOwned (quiet s last plans (s.cells ++ x ∷ []))
-    grown_owned last plans no_door no_ticket no_next arrays = record {
+    grown_owned last plans no_door no_ticket no_next no_root arrays = record {
       door = λ k. (λ at. (owned.door k).0 (was Door no_door k at), λ e. front_get s.cells (x ∷ []) k Door ((owned.door k).1 e));
       buckets = λ a i k e. (let (w, at) = owned.buckets a i k e in (w, front_get s.cells (x ∷ []) k (Bucket w) at));
       places = grown_placed s owned.places last plans x;
       tickets = λ j k n b c e f. owned.tickets j k n b c (was (Ticket n b) (no_ticket n b) j e) (was (Ticket n c) (no_ticket n c) k f);
       arrays = arrays;
       nexts = λ j k a t u e f. owned.nexts j k a t u (was (Next a t) (no_next a t) j e) (was (Next a u) (no_next a u) k f);
+      roots = λ j k i t u e f. owned.roots j k i t u (was (Root i t) (no_root i t) j e) (was (Root i u) (no_root i u) k f);
     }
 
   -- the next ticket is drawn for an array
-  module _ (ticket segment size : ℕ) (before : Option ℕ) (is : ticket ≡ suc s.last) (small : ticket ≤ 2 ^ 60) where
+  module _ (ticket segment size : ℕ) (before : Option ℕ) (is : ticket ≡ suc s.last) (small : ticket ≤ 2 ^ 60)
+      (low_number : (g : ℕ) → before ≡ Some g → g ≤ s.last) where
     abbrev plan : Plan
     plan = record { segment = segment; size = size; grown = before }
 
@@ -155,7 +159,8 @@ module _ {K V : Type 0} (S : Type 0) (eq : K → K → Bool) (laws : IsEquivalen
     ]
 
     planned_owned : IsOwned planned_state
-    planned_owned = grown_owned cell ticket plans (λ e. door_not_array e) (λ n b e. array_not_ticket (sym e)) (λ a t e. next_not_array e) one_array
+    planned_owned = grown_owned cell ticket plans (λ e. door_not_array e) (λ n b e. array_not_ticket (sym e)) (λ a t e. next_not_array e)
+        (λ i t e. root_not_array e) one_array
 
     planned_linked : AreLinked planned_state
     planned_linked = links_stay s good.linked planned_state refl (omega (arith, is)) drawn.first (λ i. refl) (λ a. refl) plans_grow (stays cell Array)
@@ -163,7 +168,18 @@ module _ {K V : Type 0} (S : Type 0) (eq : K → K → Bool) (laws : IsEquivalen
           | inl old ↦ inl old
           | inr new ↦ inr (let same = (array_is_array new.1).0 in (omega (arith, is, same), omega (arith, same)))
         ])
-        (λ k a t e. was cell (Next a t) (λ d. next_not_array d) k e)
+        (λ k a t e. was cell (Next a t) (λ d. next_not_array d) k e) (λ k i t e. was cell (Root i t) (λ d. root_not_array d) k e) (λ i. refl) grown_low
+      where
+        grown_low : (n g : ℕ) (p : Plan) → plans n ≡ Some p → p.grown ≡ Some g → g < n
+        grown_low n g p at grows = elim (eqb_tells ticket n) [
+          | inl q ↦ (
+              let is_plan : plan ≡ p = one_item (sym (ap (λ b. cond b (Some plan) (s.plans n)) q.0) ∙ at) in
+              let low = low_number g (ap (λ x. x.grown) is_plan ∙ grows) in
+              let same = q.1 in
+              omega (arith, is, low, same)
+              )
+          | inr q ↦ good.linked.grown n g p (sym (ap (λ b. cond b (Some plan) (s.plans n)) q.0) ∙ at) grows
+        ]
 
     planned_drawn : IsDrawn planned_state es
     planned_drawn = record {
@@ -202,7 +218,7 @@ module _ {K V : Type 0} (S : Type 0) (eq : K → K → Bool) (laws : IsEquivalen
     added_state = after {S = S} s (CellAdded ticket)
 
     added_owned : IsOwned added_state
-    added_owned = grown_owned (Row ticket false) s.last s.plans (λ e. door_not_row e) (λ n b e. row_not_ticket (sym e)) (λ a t e. next_not_row e)
+    added_owned = grown_owned (Row ticket false) s.last s.plans (λ e. door_not_row e) (λ n b e. row_not_ticket (sym e)) (λ a t e. next_not_row e) (λ i t e. root_not_row e)
         (λ j k n b c e f. owned.arrays j k n b c (was (Row ticket false) (Array n b) (λ d. array_not_row d) j e) (was (Row ticket false) (Array n c) (λ d. array_not_row d) k f))
 
     added_drawn : IsDrawn added_state es
@@ -224,6 +240,7 @@ module _ {K V : Type 0} (S : Type 0) (eq : K → K → Bool) (laws : IsEquivalen
     added_linked : AreLinked added_state
     added_linked = links_stay s good.linked added_state refl (omega arith) drawn.first (λ i. refl) (λ a. refl) (agrees_now s.plans) (stays (Row ticket false) Array)
         (λ k n b e. inl (was (Row ticket false) (Array n b) (λ d. array_not_row d) k e)) (λ k a t e. was (Row ticket false) (Next a t) (λ d. next_not_row d) k e)
+        (λ k i t e. was (Row ticket false) (Root i t) (λ d. root_not_row d) k e) (λ i. refl) good.linked.grown
 
     pub added_good : IsGood eq hash place added_state es
     added_good = quiet_good eq laws hash place respects s es good s.last s.plans (s.cells ++ Row ticket false ∷ [])
@@ -263,6 +280,7 @@ module _ {K V : Type 0} (S : Type 0) (eq : K → K → Bool) (laws : IsEquivalen
       tickets = λ j k n b c e f. owned.tickets j k n b c (before (Ticket n b) (λ d. row_not_ticket (sym d)) j e) (before (Ticket n c) (λ d. row_not_ticket (sym d)) k f);
       arrays = λ j k n b c e f. owned.arrays j k n b c (before (Array n b) (λ d. array_not_row d) j e) (before (Array n c) (λ d. array_not_row d) k f);
       nexts = λ j k a t u e f. owned.nexts j k a t u (before (Next a t) (λ d. next_not_row d) j e) (before (Next a u) (λ d. next_not_row d) k f);
+      roots = λ j k i t u e f. owned.roots j k i t u (before (Root i t) (λ d. root_not_row d) j e) (before (Root i u) (λ d. root_not_row d) k f);
     }
 
     array_stays : Stays Array s.cells home_state.cells
@@ -271,6 +289,7 @@ module _ {K V : Type 0} (S : Type 0) (eq : K → K → Bool) (laws : IsEquivalen
     home_linked : AreLinked home_state
     home_linked = links_stay s good.linked home_state refl (omega arith) drawn.first (λ i. refl) (λ a. refl) (agrees_now s.plans) array_stays
         (λ k n b e. inl (before (Array n b) (λ d. array_not_row d) k e)) (λ k a t e. before (Next a t) (λ d. next_not_row d) k e)
+        (λ k i t e. before (Root i t) (λ d. root_not_row d) k e) (λ i. refl) good.linked.grown
 
     home_drawn : IsDrawn home_state es
     home_drawn = record {
@@ -306,3 +325,4 @@ module _ {K V : Type 0} (S : Type 0) (eq : K → K → Bool) (laws : IsEquivalen
         (home_words s owned.places s.last s.plans key ticket at) (omega arith) (agrees_now s.plans)
         (λ k n b e. (b, still (Ticket n b) (λ d. row_not_ticket (sym d)) k e, λ h. h)) array_stays (λ k n b e. inl (row_stays k n b e))
         (λ k w e. (w, still (Bucket w) (λ d. row_not_bucket (sym d)) k e)) (λ k a t e. (t, still (Next a t) (λ d. next_not_row d) k e))
+        (λ k i t e. (t, still (Root i t) (λ d. root_not_row d) k e))

@@ -1,5 +1,5 @@
 -- A word is sealed, and all stays good.
-use Rattle.std.proofs.Common.{◌≡◌, ◌≢◌, ◌⊎◌, ℕ, ◌<◌, Bool, true, false, List, ◌∷◌, map, length, set, Option, Some, None, suc, inl, inr, refl, sym, ap, subst, ◌∙◌, arith}
+use Rattle.std.proofs.Common.{◌≡◌, ◌≢◌, ◌⊎◌, ℕ, ◌<◌, Bool, true, false, List, map, length, set, Option, Some, None, inl, inr, refl, sym, ap, subst, ◌∙◌, arith}
 use Rattle.std.proofs.lemmas.List.{length-map}
 use Rattle.std.specs.Cmp.{IsEquivalence}
 use Rattle.std.specs.List.{slice_get}
@@ -24,12 +24,12 @@ use Rattle.moka_pairs.proofs.Names.{agrees_now, is_key_for, names_keys}
 use Rattle.moka_history.specs.declared.note.Note.{Note}
 use Rattle.moka_history.specs.declared.note.Note.TheVariants.{Sealed}
 use Rattle.moka_history.specs.Entries.{Entry}
-use Rattle.moka_history.specs.States.{State, after, key_at, memory_of, word_in, words_in}
+use Rattle.moka_history.specs.States.{State, after, chain, key_at, memory_of, word_in, words_in}
 use Rattle.moka_history.specs.Cells.{cell_of, number_of}
-use Rattle.moka_history.specs.Rules.{keys_of, IsGood, IsSameOrSealed, Lasts}
+use Rattle.moka_history.specs.Rules.{keys_of, IsGood, IsRooted, IsSameOrSealed, Lasts}
 use Rattle.moka_history.specs.Keeping.{IsBare}
-use Rattle.moka_history.proofs.Chains.{first_apart}
-use Rattle.moka_history.proofs.Lists.{no_item, first_get}
+use Rattle.moka_history.proofs.Chains.{chain_one}
+use Rattle.moka_history.proofs.Lists.{no_item}
 use Rattle.moka_history.proofs.Setting.{set_cells, set_good, set_lasts, sets, word_by}
 
 -- no seal came to the word but by the note
@@ -56,9 +56,6 @@ module _ {K V : Type 0} (S : Type 0) (eq : K → K → Bool) (laws : IsEquivalen
 
   abbrev new : Memory
   new = memory_of sealed_state segment
-
-  is_root : array ≡ suc segment
-  is_root = first_get (suc segment) (s.links segment) x.rooted.place array x.rooted.before x.rooted.there
 
   within : index < length (s.arrays array)
   within = let inside = x.inside in let long = length-map (s.arrays array) (word_in s.cells) in omega (arith, inside, long)
@@ -94,17 +91,17 @@ module _ {K V : Type 0} (S : Type 0) (eq : K → K → Bool) (laws : IsEquivalen
       ∙ (stored_set_same (words_in s array) index to x.inside (seal_stored word ∙ ap stored_in (sym x.there))
       ∙ ap (λ o. stored_nodes (words_of old o)) (sym at_root)))
 
-  alone : (i p a : ℕ) → i < s.segments → i ≢ segment → slice_get (suc i ∷ s.links i) p ≡ Some a → a ≢ array
-  alone i p a low other at same = first_apart s good.linked i segment p a other x.within at (same ∙ is_root)
+  alone : (i p a : ℕ) → i < s.segments → i ≢ segment → slice_get (chain s i) p ≡ Some a → a ≢ array
+  alone i p a low other at same = other (chain_one s good.linked i segment p x.rooted.place a low x.within at (x.rooted.there ∙ ap Some (sym same)))
 
   by : (P : ℕ → ℕ → Word → Type 0) → (a j : ℕ) → P a j (word_at (words_in s a) j) → P array index to → P a j (word_at (words_in sealed_state a) j)
   by = word_by S eq laws hash place respects s es good array index to within
 
-  node_same : (i j : ℕ) → i < s.segments → node_of (word_at (words_in sealed_state (suc i)) j) ≡ node_of (word_at (words_in s (suc i)) j)
-  node_same i j low = by (λ b k w. node_of w ≡ node_of (word_at (words_in s b) k)) (suc i) j refl (seal_node word ∙ sym (ap node_of x.there))
+  node_same : (i a j : ℕ) → IsRooted s i a → node_of (word_at (words_in sealed_state a) j) ≡ node_of (word_at (words_in s a) j)
+  node_same i a j r = by (λ b k w. node_of w ≡ node_of (word_at (words_in s b) k)) a j refl (seal_node word ∙ sym (ap node_of x.there))
 
-  pub sealed_words : (i j : ℕ) → IsSameOrSealed (word_at (words_in s (suc i)) j) (word_at (words_in sealed_state (suc i)) j)
-  sealed_words i j = by (λ b k w. IsSameOrSealed (word_at (words_in s b) k) w) (suc i) j (inl refl) (inr (seal_sealed word))
+  pub sealed_words : (a j : ℕ) → IsSameOrSealed (word_at (words_in s a) j) (word_at (words_in sealed_state a) j)
+  sealed_words a j = by (λ b k w. IsSameOrSealed (word_at (words_in s b) k) w) a j (inl refl) (inr (seal_sealed word))
 
   pub sealed_note : (a j : ℕ) → IsNoNewSeal a j (word_at (words_in s a) j) (word_at (words_in sealed_state a) j) note
   sealed_note a j = by (λ b k w. IsNoNewSeal b k (word_at (words_in s b) k) w note) a j (inl refl) (inr (inr refl))

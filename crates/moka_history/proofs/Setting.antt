@@ -1,5 +1,5 @@
 -- A word of an array is set, on no ticket: what becomes of the cells, and of other segments.
-use Rattle.std.proofs.Common.{◌≡◌, ◌≢◌, ℕ, ◌<◌, Bool, true, List, ◌∷◌, map, length, set, Some, suc, inl, inr, refl, sym, ap, subst, ◌∙◌, arith}
+use Rattle.std.proofs.Common.{◌≡◌, ◌≢◌, ℕ, ◌<◌, Bool, true, List, map, length, set, Some, inl, inr, refl, sym, ap, subst, ◌∙◌, arith}
 use Rattle.std.proofs.lemmas.Bool.Decides.{eqb_tells}
 use Rattle.std.specs.Cmp.{IsEquivalence}
 use Rattle.std.specs.List.{slice_get}
@@ -14,14 +14,16 @@ use Rattle.moka_pairs.proofs.Mapped.{map_kept}
 use Rattle.moka_pairs.proofs.Names.{agrees_now}
 use Rattle.moka_history.specs.declared.note.Note.TheVariants.{Sealed}
 use Rattle.moka_history.specs.Entries.{Entry}
-use Rattle.moka_history.specs.States.{Owner, Door, Bucket, Ticket, Array, Row, Next, State, IsPlaced, after, key_at, memory_of, words_in}
+use Rattle.moka_history.specs.States.{Owner, Door, Bucket, Ticket, Array, Row, Next, Root, State, IsPlaced, after, chain, key_at, memory_of, words_in}
 use Rattle.moka_history.specs.Cells.{cell_of, number_of}
-use Rattle.moka_history.specs.Rules.{keys_of, pair_in, AreLinked, IsOwned, IsDrawn, IsGood, Lasts}
+use Rattle.moka_history.specs.Rules.{keys_of, pair_in, AreLinked, IsOwned, IsDrawn, IsGood, IsRooted, Lasts}
 use Rattle.moka_history.proofs.Cells.{key_there, sealed_sets}
 use Rattle.moka_history.proofs.Chains.{links_stay}
 use Rattle.moka_history.proofs.Lists.{one_item, get_below, map_set, other_get, set_from, set_get}
 use Rattle.moka_history.proofs.Owners.{Stays, array_not_bucket, next_not_bucket, row_not_bucket}
 use Rattle.moka_history.proofs.Resting.{rests_later, rests_map, rests_sound}
+use Rattle.moka_history.proofs.Rooted.{was_rooted}
+use Rattle.moka_history.proofs.Swung.{root_not_bucket}
 
 door_not_bucket : {w : Word} → Door ≡ Bucket w → ⊥
 door_not_bucket e = absurd (cc (e))
@@ -90,6 +92,7 @@ module _ {K V : Type 0} (S : Type 0) (eq : K → K → Bool) (laws : IsEquivalen
     tickets = λ j k n b c e f. owned.tickets j k n b c (before (Ticket n b) (λ d. ticket_not_bucket d) j e) (before (Ticket n c) (λ d. ticket_not_bucket d) k f);
     arrays = λ j k n b c e f. owned.arrays j k n b c (before (Array n b) (λ d. array_not_bucket d) j e) (before (Array n c) (λ d. array_not_bucket d) k f);
     nexts = λ j k a t u e f. owned.nexts j k a t u (before (Next a t) (λ d. next_not_bucket d) j e) (before (Next a u) (λ d. next_not_bucket d) k f);
+    roots = λ j k i t u e f. owned.roots j k i t u (before (Root i t) (λ d. root_not_bucket d) j e) (before (Root i u) (λ d. root_not_bucket d) k f);
   }
 
   set_drawn : IsDrawn set_state es
@@ -108,16 +111,17 @@ module _ {K V : Type 0} (S : Type 0) (eq : K → K → Bool) (laws : IsEquivalen
   set_linked : AreLinked set_state
   set_linked = links_stay s good.linked set_state refl (omega arith) drawn.first (λ i. refl) (λ a. refl) (agrees_now s.plans) array_stays
       (λ k n b e. inl (before (Array n b) (λ d. array_not_bucket d) k e)) (λ k a t e. before (Next a t) (λ d. next_not_bucket d) k e)
+      (λ k i t e. before (Root i t) (λ d. root_not_bucket d) k e) (λ i. refl) good.linked.grown
 
   pub set_cells : (d : ℕ) → set (map (cell_of d) s.cells) bucket (number_of to, true) ≡ map (cell_of d) set_state.cells
   set_cells d = sym (map_set (cell_of d) s.cells bucket (Bucket to))
 
   -- the array is one of this segment alone, which stays sound and keeps its map
-  module _ (segment : ℕ) (alone : (i p a : ℕ) → i < s.segments → i ≢ segment → slice_get (suc i ∷ s.links i) p ≡ Some a → a ≢ array)
+  module _ (segment : ℕ) (alone : (i p a : ℕ) → i < s.segments → i ≢ segment → slice_get (chain s i) p ≡ Some a → a ≢ array)
       (sound_here : SoundAll eq hash (keys_of place s segment) (memory_of set_state segment))
       (later_here : LaterAll eq (keys_of place s segment) (memory_of s segment) (memory_of set_state segment))
       (keeps_here : KeepsMap (memory_of s segment) (memory_of set_state segment))
-      (named : (i j : ℕ) → i < s.segments → node_of (word_at (words_in set_state (suc i)) j) ≡ node_of (word_at (words_in s (suc i)) j)) where
+      (named : (i a j : ℕ) → IsRooted s i a → node_of (word_at (words_in set_state a) j) ≡ node_of (word_at (words_in s a) j)) where
     map_here : (q : K) → pair_in eq place set_state segment q ≡ pair_in eq place s segment q
     map_here q = map_kept eq laws hash respects (keys_of place s segment) s.pairs (memory_of s segment) (memory_of set_state segment) sound_here keeps_here q
 
@@ -153,7 +157,9 @@ module _ {K V : Type 0} (S : Type 0) (eq : K → K → Bool) (laws : IsEquivalen
       drawn = set_drawn;
       linked = set_linked;
       sound = all_sound;
-      puts = λ i j n p low names at. good.puts i j n p low (sym (named i j low) ∙ names) at;
+      puts = λ i a j n p r names at.
+          let rooted = was_rooted s set_state i a refl refl refl r in
+          good.puts i a j n p rooted (sym (named i a j rooted) ∙ names) at;
       legal = good.legal;
       map_is = λ q low. good.map_is q low ∙ sym (all_map (place q) q low);
     }
@@ -168,6 +174,7 @@ module _ {K V : Type 0} (S : Type 0) (eq : K → K → Bool) (laws : IsEquivalen
       rows = λ k n b e. inl (b, still (Row n b) (λ w d. row_not_bucket d) k e, λ h. h);
       buckets = still_bucket;
       nexts = λ k a t e. (t, still (Next a t) (λ w d. next_not_bucket d) k e);
+      roots = λ k i t e. (t, still (Root i t) (λ w d. root_not_bucket d) k e);
       pairs = agrees_now s.pairs;
       plans = agrees_now s.plans;
       later = all_later;

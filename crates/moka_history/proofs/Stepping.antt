@@ -1,5 +1,5 @@
 -- Whole steps keep the rule.
-use Rattle.std.proofs.Common.{◌≡◌, ℕ, ◌-◌, ◌^◌, ◌<◌, ◌≤◌, Bool, true, false, List, [], ◌∷◌, ◌++◌, map, length, set, Option, Some, suc, inl, inr, refl, sym, ap, subst, ◌∙◌, arith, length-append}
+use Rattle.std.proofs.Common.{◌≡◌, ℕ, ◌-◌, ◌^◌, ◌≤◌, Bool, true, false, List, [], ◌∷◌, ◌++◌, map, length, set, Option, Some, suc, inl, inr, refl, sym, ap, subst, ◌∙◌, arith, length-append}
 use Rattle.std.proofs.lemmas.Bool.{false≢true}
 use Rattle.std.proofs.lemmas.List.{append-nil, length-map}
 use Rattle.std.specs.List.{slice_get}
@@ -16,7 +16,7 @@ use Rattle.moka_history.specs.Entries.{Entry}
 use Rattle.moka_history.specs.States.{Ticket, State, after, key_at, unopened, words_in}
 use Rattle.moka_history.specs.Logs.{entries_of, entry_with, state_of}
 use Rattle.moka_history.specs.Cells.{cell_of, cells_of, drawn, number_of}
-use Rattle.moka_history.specs.Rules.{IsGood, Lasts, IsSameOrSealed, NamesSeal, IsKept, Holds}
+use Rattle.moka_history.specs.Rules.{IsGood, IsRooted, Lasts, IsSameOrSealed, NamesSeal, IsKept, Holds}
 use Rattle.moka_history.specs.Keeping.{IsDivided, Exchanges}
 use Rattle.moka_history.proofs.Announcing.{announced_good, announced_lasts, announced_words}
 use Rattle.moka_history.proofs.Exchanged.{changed_words, exchanged}
@@ -41,8 +41,8 @@ module _ {K V S : Type 0} (eq : K → K → Bool) (hash : S → K → ℕ) (plac
   -- after one note more, with these entries
   module _ (note : Note K V S) (es : List (Entry K V)) (entries_are : entries_of (log ++ note ∷ []) ≡ es)
       (good_then : IsGood eq (hash kept.hasher) Place (after now note) es) (lasts_then : Lasts eq Place now (after now note))
-      (words_then : length es ≡ length (entries_of log) → (i index : ℕ) → i < kept.segments →
-      IsSameOrSealed (word_at (words_in now (suc i)) index) (word_at (words_in (after now note) (suc i)) index))
+      (words_then : length es ≡ length (entries_of log) → (i a index : ℕ) → IsRooted now i a →
+      IsSameOrSealed (word_at (words_in now a) index) (word_at (words_in (after now note) a) index))
       (seals_then : (array index : ℕ) → IsNoNewSeal array index (word_at (words_in now array) index) (word_at (words_in (after now note) array) index) note) where
     state_is : state_of (log ++ note ∷ []) ≡ after now note
     state_is = state_more unopened log note
@@ -64,8 +64,8 @@ module _ {K V S : Type 0} (eq : K → K → Bool) (hash : S → K → ℕ) (plac
         (subst (λ xs. IsGood eq (hash kept.hasher) Place (state_of (log ++ note ∷ [])) xs) (sym entries_are)
         (subst (λ s. IsGood eq (hash kept.hasher) Place s es) (sym state_is) good_then))
         (subst (λ s. Lasts eq Place now s) (sym state_is) lasts_then)
-        (λ equal i index below. subst (λ s. IsSameOrSealed (word_at (words_in now (suc i)) index) (word_at (words_in s (suc i)) index)) (sym state_is)
-        (words_then (ap (λ xs. length xs) (sym entries_are) ∙ equal) i index below))
+        (λ equal i a index r. subst (λ s. IsSameOrSealed (word_at (words_in now a) index) (word_at (words_in s a) index)) (sym state_is)
+        (words_then (ap (λ xs. length xs) (sym entries_are) ∙ equal) i a index r))
         (subst (λ s. (array index : ℕ) → is_sealed (word_at (words_in s array) index) ≡ true →
         NamesSeal array index (word_at (words_in s array) index) (log ++ note ∷ [])) (sym state_is) named_then)
 
@@ -99,7 +99,7 @@ module _ {K V S : Type 0} (eq : K → K → Bool) (hash : S → K → ℕ) (plac
       holds_then announced (entries_of log) (entries_more unopened log announced ∙ append-nil (entries_of log))
           (announced_good S eq divided.laws (hash kept.hasher) Place (divided.hashed kept.hasher) now (entries_of log) good ticket pair is small)
           (announced_lasts S eq divided.laws (hash kept.hasher) Place (divided.hashed kept.hasher) now (entries_of log) good ticket pair is small)
-          (λ equal i index below. inl (ap (λ ws. word_at ws index) (announced_same (suc i))))
+          (λ equal i a index r. inl (ap (λ ws. word_at ws index) (announced_same a)))
           (λ array index. inl (ap (λ ws. word_at ws index) (announced_same array)))
           (set cells 0 (suc (drawn now), true) ++ (0, false) ∷ []) cells_then,
       ap (λ s. slice_get s.cells (length cells)) (state_more unopened log announced)
@@ -137,7 +137,7 @@ module _ {K V S : Type 0} (eq : K → K → Bool) (hash : S → K → ℕ) (plac
         let entries_then : entries_of (log ++ changed ∷ []) ≡ entries_of log ++ entry_with now.pairs ticket from to k ∷ [] =
         entries_more unopened log changed ∙ ap (λ o. entries_of log ++ option_to_list o) entry in (
           holds_then changed (entries_of log ++ entry_with now.pairs ticket from to k ∷ []) entries_then good_then lasts_then
-              (λ equal i index below. absurd (let long = length-append (entries_of log) (entry_with now.pairs ticket from to k ∷ []) in omega (arith, equal, long)))
+              (λ equal i a index r. absurd (let long = length-append (entries_of log) (entry_with now.pairs ticket from to k ∷ []) in omega (arith, equal, long)))
               (λ a j. no_new a j)
               (set (set cells bucket (number_of to, true)) own (0, true))
               (ap (λ cs. set (set cs bucket (number_of to, true)) own (0, true)) are ∙ cells_then (drawn now)),

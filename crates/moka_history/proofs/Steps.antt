@@ -1,5 +1,5 @@
--- Whole steps of rows, seals, links and copies keep the rule.
-use Rattle.std.proofs.Common.{◌≡◌, ℕ, ◌-◌, ◌^◌, ◌<◌, ◌≤◌, Bool, true, false, List, [], ◌∷◌, ◌++◌, map, length, set, Option, Some, IsSome, suc, inl, refl, sym, ap, subst, ◌∙◌, arith}
+-- Whole steps of rows, seals, links, copies and swings keep the rule.
+use Rattle.std.proofs.Common.{◌≡◌, ℕ, ◌-◌, ◌^◌, ◌≤◌, Bool, true, false, List, [], ◌∷◌, ◌++◌, map, length, set, Option, Some, IsSome, suc, inl, refl, sym, ap, subst, ◌∙◌, arith}
 use Rattle.std.proofs.lemmas.List.{append-nil, length-map}
 use Rattle.std.specs.List.{slice_get}
 use Rattle.logbook.specs.Pages.{Cell}
@@ -12,21 +12,22 @@ use Rattle.moka_growth.specs.Calls as call
 use Rattle.moka_growth.specs.Growing.{next_size, seal_of}
 use Rattle.moka_pairs.specs.Segments.{EffectAll}
 use Rattle.moka_history.specs.declared.note.Note.{Note}
-use Rattle.moka_history.specs.declared.note.Note.TheVariants.{ArrayAnnounced, ArrayLinked, CellAdded, CellHome, Copied, Sealed}
-use Rattle.moka_history.specs.States.{Owner, Array, Row, State, after, key_at, memory_of, numbered, unopened, words_in}
+use Rattle.moka_history.specs.declared.note.Note.TheVariants.{ArrayAnnounced, ArrayLinked, CellAdded, CellHome, Copied, Sealed, Swung}
+use Rattle.moka_history.specs.States.{Owner, Array, Row, Root, State, after, key_at, memory_of, numbered, root_number, unopened, words_in}
 use Rattle.moka_history.specs.Logs.{entries_of, state_of}
 use Rattle.moka_history.specs.Cells.{cell_of, cells_of, drawn, number_of}
 use Rattle.moka_history.specs.Rules.{keys_of, IsGood, IsKept, Holds}
 use Rattle.moka_history.specs.Keeping.{IsBare, IsDivided, IsReady, StandsAt}
 use Rattle.moka_history.proofs.Copying.{copied_cells, copied_effect, copied_good, copied_lasts, copied_note, copied_words}
 use Rattle.moka_history.proofs.Folds.{entries_more, state_more}
-use Rattle.moka_history.proofs.Fronts.{good_now, segments_are}
+use Rattle.moka_history.proofs.Fronts.{good_now}
 use Rattle.moka_history.proofs.Linking.{linked_cells, linked_effect, linked_good, linked_lasts, linked_note, linked_words}
 use Rattle.moka_history.proofs.Lists.{last_get, map_more, map_set}
 use Rattle.moka_history.proofs.Owners.{door_counts}
 use Rattle.moka_history.proofs.Rows.{added_good, added_lasts, home_good, home_lasts, home_there, plan_there, planned_good, planned_lasts, rows_keep}
 use Rattle.moka_history.proofs.Sealing.{sealed_cells, sealed_good, sealed_lasts, sealed_note, sealed_words}
 use Rattle.moka_history.proofs.Stepping.{holds_then}
+use Rattle.moka_history.proofs.Swinging.{swung_effect, swung_good, swung_holds, swung_lasts, swung_note, swung_words}
 
 module _ {K V S : Type 0} (eq : K → K → Bool) (hash : S → K → ℕ) (place : S → ℕ → K → ℕ) (divided : IsDivided eq hash place)
     (log : List (Note K V S)) (kept : IsKept eq hash place log) (cells : List Cell) (are : cells ≡ cells_of (state_of log)) where
@@ -43,7 +44,8 @@ module _ {K V S : Type 0} (eq : K → K → Bool) (hash : S → K → ℕ) (plac
   long = ap (λ cs. length cs) are ∙ length-map now.cells (cell_of (drawn now))
 
   -- the next ticket is drawn for an array
-  module _ (ticket segment size : ℕ) (grown : Option ℕ) (is : ticket ≡ suc now.last) (small : ticket ≤ 2 ^ 60) where
+  module _ (ticket segment size : ℕ) (grown : Option ℕ) (is : ticket ≡ suc now.last) (small : ticket ≤ 2 ^ 60)
+      (low_number : (g : ℕ) → grown ≡ Some g → g ≤ now.last) where
     abbrev announced : Note K V S
     announced = ArrayAnnounced ticket segment size grown
 
@@ -71,9 +73,9 @@ module _ {K V S : Type 0} (eq : K → K → Bool) (hash : S → K → ℕ) (plac
 
     pub announcing_holds : Holds eq hash place (set cells 0 (suc (drawn now), true) ++ (0, false) ∷ []) (log ++ announced ∷ [])
     announcing_holds = holds_then eq hash place divided log kept cells are announced (entries_of log) announcing_entries
-        (planned_good S eq divided.laws (hash kept.hasher) Place (divided.hashed kept.hasher) now (entries_of log) good ticket segment size grown is small)
-        (planned_lasts S eq divided.laws (hash kept.hasher) Place (divided.hashed kept.hasher) now (entries_of log) good ticket segment size grown is small)
-        (λ equal i index below. inl (ap (λ ws. word_at ws index) (same (suc i))))
+        (planned_good S eq divided.laws (hash kept.hasher) Place (divided.hashed kept.hasher) now (entries_of log) good ticket segment size grown is small low_number)
+        (planned_lasts S eq divided.laws (hash kept.hasher) Place (divided.hashed kept.hasher) now (entries_of log) good ticket segment size grown is small low_number)
+        (λ equal i a index r. inl (ap (λ ws. word_at ws index) (same a)))
         (λ array index. inl (ap (λ ws. word_at ws index) (same array)))
         (set cells 0 (suc (drawn now), true) ++ (0, false) ∷ []) cells_then
 
@@ -83,7 +85,7 @@ module _ {K V S : Type 0} (eq : K → K → Bool) (hash : S → K → ℕ) (plac
 
     pub announcing_plan : (state_of (log ++ announced ∷ [])).plans ticket ≡ Some (record { segment = segment; size = size; grown = grown })
     announcing_plan = ap (λ s. s.plans ticket) state_is
-        ∙ plan_there S eq divided.laws (hash kept.hasher) Place (divided.hashed kept.hasher) now (entries_of log) good ticket segment size grown is small
+        ∙ plan_there S eq divided.laws (hash kept.hasher) Place (divided.hashed kept.hasher) now (entries_of log) good ticket segment size grown is small low_number
 
   -- a cell is added to a row
   module _ (ticket : ℕ) (has : IsSome (now.plans ticket)) where
@@ -100,7 +102,7 @@ module _ {K V S : Type 0} (eq : K → K → Bool) (hash : S → K → ℕ) (plac
     adding_holds = holds_then eq hash place divided log kept cells are adding (entries_of log) adding_entries
         (added_good S eq divided.laws (hash kept.hasher) Place (divided.hashed kept.hasher) now (entries_of log) good ticket has)
         (added_lasts S eq divided.laws (hash kept.hasher) Place (divided.hashed kept.hasher) now (entries_of log) good ticket has)
-        (λ equal i index below. inl (ap (λ ws. word_at ws index) (adding_same (suc i))))
+        (λ equal i a index r. inl (ap (λ ws. word_at ws index) (adding_same a)))
         (λ array index. inl (ap (λ ws. word_at ws index) (adding_same array)))
         (cells ++ (0, false) ∷ [])
         (ap (λ cs. cs ++ (0, false) ∷ []) are ∙ sym (map_more (cell_of (drawn now)) now.cells (Row ticket false)))
@@ -124,7 +126,7 @@ module _ {K V S : Type 0} (eq : K → K → Bool) (hash : S → K → ℕ) (plac
     bringing_holds = holds_then eq hash place divided log kept cells are bringing (entries_of log) bringing_entries
         (home_good S eq divided.laws (hash kept.hasher) Place (divided.hashed kept.hasher) now (entries_of log) good ticket key at)
         (home_lasts S eq divided.laws (hash kept.hasher) Place (divided.hashed kept.hasher) now (entries_of log) good ticket key at)
-        (λ equal i index below. inl (ap (λ ws. word_at ws index) (bringing_same (suc i))))
+        (λ equal i a index r. inl (ap (λ ws. word_at ws index) (bringing_same a)))
         (λ array index. inl (ap (λ ws. word_at ws index) (bringing_same array)))
         (set cells key (1, true))
         (ap (λ cs. set cs key (1, true)) are ∙ sym (map_set (cell_of (drawn now)) now.cells key (Row ticket true)))
@@ -145,43 +147,40 @@ module _ {K V S : Type 0} (eq : K → K → Bool) (hash : S → K → ℕ) (plac
     sealing_holds = holds_then eq hash place divided log kept cells are sealing (entries_of log) sealing_entries
         (sealed_good S eq divided.laws (hash kept.hasher) Place (divided.hashed kept.hasher) now (entries_of log) good segment array index word x)
         (sealed_lasts S eq divided.laws (hash kept.hasher) Place (divided.hashed kept.hasher) now (entries_of log) good segment array index word x)
-        (λ equal i j below. sealed_words S eq divided.laws (hash kept.hasher) Place (divided.hashed kept.hasher) now (entries_of log) good segment array index word x i j)
+        (λ equal i a j r. sealed_words S eq divided.laws (hash kept.hasher) Place (divided.hashed kept.hasher) now (entries_of log) good segment array index word x a j)
         (sealed_note S eq divided.laws (hash kept.hasher) Place (divided.hashed kept.hasher) now (entries_of log) good segment array index word x)
         (set cells (key_at now array index) (number_of (seal_of word), true))
         (ap (λ cs. set cs (key_at now array index) (number_of (seal_of word), true)) are
         ∙ sealed_cells S eq divided.laws (hash kept.hasher) Place (divided.hashed kept.hasher) now (entries_of log) good segment array index word x (drawn now))
 
-  segments_same : now.segments ≡ kept.segments
-  segments_same = segments_are eq hash place log kept
-
   -- an array is linked
-  module _ (segment size : ℕ) (nodes : List (ℕ × ℕ)) (key : Option K) (c : Call)
-      (x : StandsAt eq (hash kept.hasher) Place now segment key c (call.Link (Some (suc segment)) size nodes)) (own ticket next : ℕ) (keys : List ℕ)
-      (r : IsReady now segment own ticket next keys) (length_is : length keys ≡ next_size (Some (suc segment)) size (length nodes)) where
+  module _ (segment before size : ℕ) (nodes : List (ℕ × ℕ)) (key : Option K) (c : Call)
+      (x : StandsAt eq (hash kept.hasher) Place now segment key c (call.Link (Some before) size nodes)) (own ticket next : ℕ) (keys : List ℕ) (behind : ℕ)
+      (r : IsReady now segment before own ticket next keys behind) (length_is : length keys ≡ next_size (Some before) size (length nodes)) where
     abbrev linking : Note K V S
-    linking = ArrayLinked ticket segment (Some (suc segment)) keys
+    linking = ArrayLinked ticket segment (Some before) keys behind
 
     pub linking_entries : entries_of (log ++ linking ∷ []) ≡ entries_of log
     linking_entries = entries_more unopened log linking ∙ append-nil (entries_of log)
 
     pub linking_holds : Holds eq hash place (set (set cells next (ticket, true)) own (0, true)) (log ++ linking ∷ [])
     linking_holds = holds_then eq hash place divided log kept cells are linking (entries_of log) linking_entries
-        (linked_good S eq divided.laws (hash kept.hasher) Place (divided.hashed kept.hasher) now (entries_of log) good segment size nodes key c x own ticket next keys r length_is)
-        (linked_lasts S eq divided.laws (hash kept.hasher) Place (divided.hashed kept.hasher) now (entries_of log) good segment size nodes key c x own ticket next keys r length_is)
-        (λ equal i j below. linked_words S eq divided.laws (hash kept.hasher) Place (divided.hashed kept.hasher) now (entries_of log) good
-        segment size nodes key c x own ticket next keys r length_is i j (subst (λ n. i < n) (sym segments_same) below))
-        (linked_note S eq divided.laws (hash kept.hasher) Place (divided.hashed kept.hasher) now (entries_of log) good segment size nodes key c x own ticket next keys r length_is)
+        (linked_good S eq divided.laws (hash kept.hasher) Place (divided.hashed kept.hasher) now (entries_of log) good segment before size nodes key c x own ticket next keys behind r length_is)
+        (linked_lasts S eq divided.laws (hash kept.hasher) Place (divided.hashed kept.hasher) now (entries_of log) good segment before size nodes key c x own ticket next keys behind r length_is)
+        (λ equal i a j k. linked_words S eq divided.laws (hash kept.hasher) Place (divided.hashed kept.hasher) now (entries_of log) good
+        segment before size nodes key c x own ticket next keys behind r length_is i a j k)
+        (linked_note S eq divided.laws (hash kept.hasher) Place (divided.hashed kept.hasher) now (entries_of log) good segment before size nodes key c x own ticket next keys behind r length_is)
         (set (set cells next (ticket, true)) own (0, true))
         (ap (λ cs. set (set cs next (ticket, true)) own (0, true)) are
         ∙ linked_cells S eq divided.laws (hash kept.hasher) Place (divided.hashed kept.hasher) now (entries_of log) good
-        segment size nodes key c x own ticket next keys r length_is (drawn now))
+        segment before size nodes key c x own ticket next keys behind r length_is (drawn now))
 
     pub linking_effect : EffectAll eq (hash kept.hasher) (keys_of Place now segment) key (access_of c) (seen.Linked ticket (length keys))
         (numbered ticket (memory_of now segment)) (numbered (suc ticket) (memory_of (state_of (log ++ linking ∷ [])) segment))
     linking_effect = subst (λ s. EffectAll eq (hash kept.hasher) (keys_of Place now segment) key (access_of c) (seen.Linked ticket (length keys))
         (numbered ticket (memory_of now segment)) (numbered (suc ticket) (memory_of s segment))) (sym (state_more unopened log linking))
         (linked_effect S eq divided.laws (hash kept.hasher) Place (divided.hashed kept.hasher) now (entries_of log) good
-        segment size nodes key c x own ticket next keys r length_is)
+        segment before size nodes key c x own ticket next keys behind r length_is)
 
   -- a word is copied
   module _ (segment array index : ℕ) (from : Option ℕ) (laid : List Word) (key : Option K) (c : Call)
@@ -196,8 +195,8 @@ module _ {K V S : Type 0} (eq : K → K → Bool) (hash : S → K → ℕ) (plac
     copying_holds = holds_then eq hash place divided log kept cells are copying (entries_of log) copying_entries
         (copied_good S eq divided.laws (hash kept.hasher) Place (divided.hashed kept.hasher) now (entries_of log) good segment array index from laid key c x unset)
         (copied_lasts S eq divided.laws (hash kept.hasher) Place (divided.hashed kept.hasher) now (entries_of log) good segment array index from laid key c x unset)
-        (λ equal i j below. copied_words S eq divided.laws (hash kept.hasher) Place (divided.hashed kept.hasher) now (entries_of log) good
-        segment array index from laid key c x unset i j (subst (λ n. i < n) (sym segments_same) below))
+        (λ equal i a j r. copied_words S eq divided.laws (hash kept.hasher) Place (divided.hashed kept.hasher) now (entries_of log) good
+        segment array index from laid key c x unset i a j r)
         (copied_note S eq divided.laws (hash kept.hasher) Place (divided.hashed kept.hasher) now (entries_of log) good segment array index from laid key c x unset)
         (set cells (key_at now array index) (number_of (word_at laid index), true))
         (ap (λ cs. set cs (key_at now array index) (number_of (word_at laid index), true)) are
@@ -209,3 +208,31 @@ module _ {K V S : Type 0} (eq : K → K → Bool) (hash : S → K → ℕ) (plac
     copying_effect = subst (λ s. EffectAll eq (hash kept.hasher) (keys_of Place now segment) key (access_of c) seen.Copied
         (memory_of now segment) (memory_of s segment)) (sym (state_more unopened log copying))
         (copied_effect S eq divided.laws (hash kept.hasher) Place (divided.hashed kept.hasher) now (entries_of log) good segment array index from laid key c x unset)
+
+  -- the root is swung
+  module _ (segment from to : ℕ) (key : Option K) (c : Call)
+      (x : StandsAt eq (hash kept.hasher) Place now segment key c (call.Swing (Some from) to)) (root : ℕ)
+      (there : slice_get now.cells root ≡ Some (Root segment (root_number segment from))) where
+    abbrev swinging : Note K V S
+    swinging = Swung segment from to
+
+    pub swinging_entries : entries_of (log ++ swinging ∷ []) ≡ entries_of log
+    swinging_entries = entries_more unopened log swinging ∙ append-nil (entries_of log)
+
+    pub swinging_holds : Holds eq hash place (set cells root (to, true)) (log ++ swinging ∷ [])
+    swinging_holds = holds_then eq hash place divided log kept cells are swinging (entries_of log) swinging_entries
+        (swung_good S eq divided.laws (hash kept.hasher) Place (divided.hashed kept.hasher) now (entries_of log) good segment from to key c x root there)
+        (swung_lasts S eq divided.laws (hash kept.hasher) Place (divided.hashed kept.hasher) now (entries_of log) good segment from to key c x root there)
+        (λ equal i a j r. swung_words S eq divided.laws (hash kept.hasher) Place (divided.hashed kept.hasher) now (entries_of log) good
+        segment from to key c x root there a j)
+        (swung_note S eq divided.laws (hash kept.hasher) Place (divided.hashed kept.hasher) now (entries_of log) good segment from to key c x root there)
+        (set cells root (to, true))
+        (ap (λ cs. set cs root (to, true)) are
+        ∙ swung_holds S eq divided.laws (hash kept.hasher) Place (divided.hashed kept.hasher) now (entries_of log) good
+        segment from to key c x root there (drawn now))
+
+    pub swinging_effect : EffectAll eq (hash kept.hasher) (keys_of Place now segment) key (access_of c) seen.Swung
+        (memory_of now segment) (memory_of (state_of (log ++ swinging ∷ [])) segment)
+    swinging_effect = subst (λ s. EffectAll eq (hash kept.hasher) (keys_of Place now segment) key (access_of c) seen.Swung
+        (memory_of now segment) (memory_of s segment)) (sym (state_more unopened log swinging))
+        (swung_effect S eq divided.laws (hash kept.hasher) Place (divided.hashed kept.hasher) now (entries_of log) good segment from to key c x root there)

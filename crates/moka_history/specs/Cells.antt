@@ -3,7 +3,7 @@ use Rattle.std.specs.Prelude.{ℕ, ◌+◌, ◌-◌, ◌*◌, ◌^◌, true, con
 use Rattle.logbook.specs.Pages.{Cell}
 use Rattle.moka_words.specs.declared.words.Word.{Word}
 use Rattle.moka_words.specs.declared.words.Word.TheVariants.{Unset, Empty, Live, Tomb, SealedEmpty, SealedLive, SealedTomb}
-use Rattle.moka_history.specs.States.{Owner, Door, Bucket, Ticket, Array, Row, Next, State}
+use Rattle.moka_history.specs.States.{Owner, Door, Bucket, Ticket, Array, Row, Next, Root, State}
 
 -- the number by which a cell holds a word; a new cell holds 0
 abbrev pub number_of : Word → ℕ
@@ -23,6 +23,7 @@ cell_of drawn (Ticket n home) = (0, home)
 cell_of drawn (Array n home) = (0, home)
 cell_of drawn (Row n home) = (cond home 1 0, home)
 cell_of drawn (Next a to) = (to, true)
+cell_of drawn (Root i to) = (to, true)
 
 module _ {K V : Type 0} where
   abbrev pub drawn : State K V → ℕ

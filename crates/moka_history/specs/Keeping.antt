@@ -21,13 +21,13 @@ use Rattle.moka_pairs.specs.Keys.{Respects, own_by}
 use Rattle.moka_pairs.specs.Pairs.{pair_at}
 use Rattle.moka_pairs.specs.Segments.{EffectAll, FitsAll, IsHashed}
 use Rattle.moka_history.specs.declared.note.Note.{Note}
-use Rattle.moka_history.specs.declared.note.Note.TheVariants.{Opened, Announced, Changed, ArrayAnnounced, CellAdded, CellHome, Sealed, ArrayLinked, Copied}
+use Rattle.moka_history.specs.declared.note.Note.TheVariants.{Opened, Announced, Changed, ArrayAnnounced, CellAdded, CellHome, Sealed, ArrayLinked, Copied, Swung}
 use Rattle.moka_history.specs.Entries.{Entry, map_after}
-use Rattle.moka_history.specs.States.{Ticket, Array, Row, Next, Plan, State, key_at, memory_of, numbered, words_in}
+use Rattle.moka_history.specs.States.{Ticket, Array, Row, Next, Root, Plan, State, key_at, memory_of, no_next, numbered, root_number, words_in}
 use Rattle.moka_history.specs.Laws.{AreMade}
 use Rattle.moka_history.specs.Logs.{entries_of, entry_with, state_of}
 use Rattle.moka_history.specs.Cells.{number_of, drawn}
-use Rattle.moka_history.specs.Rules.{WasPut, made_on, keys_of, Lasts, IsFront, IsOpenedFor, NamesSeal, IsKept, Holds}
+use Rattle.moka_history.specs.Rules.{IsRooted, WasPut, made_on, keys_of, Lasts, IsFront, IsOpenedFor, NamesSeal, IsKept, Holds}
 
 -- equal keys have one hash and one segment, whichever the hash builder is
 pub record IsDivided {K S : Type 0} (eq : K → K → Bool) (hash : S → K → ℕ)
@@ -41,7 +41,7 @@ abbrev pub OpeningIsKept : (K V S : Type 0) → Type 0
 OpeningIsKept K V S =
     (eq : K → K → Bool) (hash : S → K → ℕ) (place : S → ℕ → K → ℕ) → IsDivided eq hash place →
     (segments size : ℕ) (hasher : S) → segments ≤ 2 ^ 60 → IsPowerOfTwo size →
-    Holds {V = V} eq hash place (replicate (suc (segments * size + segments)) (0, true))
+    Holds {V = V} eq hash place (replicate (suc (segments * size + (segments + segments))) (0, true))
     (Opened segments size hasher ∷ [])
 
 -- each front of a kept log is kept, and was opened as the log was
@@ -89,12 +89,13 @@ abbrev pub NumbersTellWords : Type 0
 NumbersTellWords =
     (v w : Word) → IsSmall v → IsSmall w → number_of v ≡ number_of w → v ≡ w
 
--- a word of a segment's array names a pair of the segment, and its number is small
+-- a word of an array that is a segment's root, or was it, names a pair of the segment, and its number is
+-- small
 abbrev pub WordsNamePairs : (K V S : Type 0) → Type 0
 WordsNamePairs K V S =
     (eq : K → K → Bool) (hash : S → K → ℕ) (place : S → ℕ → K → ℕ) →
-    (log : List (Note K V S)) → (kept : IsKept eq hash place log) → (i index n : ℕ) →
-    i < kept.segments → node_of (word_at (words_in (state_of log) (suc i)) index) ≡ Some n →
+    (log : List (Note K V S)) → (kept : IsKept eq hash place log) → (i a index n : ℕ) →
+    IsRooted (state_of log) i a → node_of (word_at (words_in (state_of log) a) index) ≡ Some n →
     (p : K × V) × ((state_of log).pairs n ≡ Some p) × (place kept.hasher kept.segments p.0 ≡ i)
     × (n ≤ 2 ^ 60)
 
@@ -146,13 +147,13 @@ ChangingKeeps K V S =
     × (entries_of more ≡ entries_of log ++ entry_with (state_of log).pairs ticket from to k ∷ []))
 
 -- A step that draws the next ticket for an array keeps the rule: the new cell is of that ticket, which
--- has this plan. No entry comes.
+-- has this plan. The array that it is to grow has a number that was drawn. No entry comes.
 abbrev pub ArrayAnnouncingKeeps : (K V S : Type 0) → Type 0
 ArrayAnnouncingKeeps K V S =
     (eq : K → K → Bool) (hash : S → K → ℕ) (place : S → ℕ → K → ℕ) → IsDivided eq hash place →
     (cells : List Cell) (log : List (Note K V S)) → Holds eq hash place cells log →
     (ticket segment size : ℕ) (grown : Option ℕ) → ticket ≡ suc (state_of log).last →
-    ticket ≤ 2 ^ 60 →
+    ticket ≤ 2 ^ 60 → ((g : ℕ) → grown ≡ Some g → g ≤ (state_of log).last) →
     let more : List (Note K V S) = log ++ ArrayAnnounced ticket segment size grown ∷ [] in
     let plan : Plan = record { segment = segment; size = size; grown = grown } in
     Holds eq hash place
@@ -212,17 +213,18 @@ pub record StandsAt {K V : Type 0} (eq : K → K → Bool) (hash place : K → �
   pub fits : FitsAll eq hash (keys_of place s segment) key (memory_of s segment) c
   pub stands : c.point ≡ point
 
--- The array of a ticket is ready to be linked after the first one of its segment: it was announced so,
--- its ticket isn't home, these are the keys of its words, and nothing follows that first one so far.
-pub record IsReady {K V : Type 0} (s : State K V) (segment own ticket next : ℕ) (keys : List ℕ)
-    : Type 0 where
+-- The array of a ticket is ready to be linked after another one of its segment: it was announced so, its
+-- ticket isn't home, these are the keys of its words and of the cell behind them, and nothing follows the
+-- other one so far.
+pub record IsReady {K V : Type 0} (s : State K V) (segment grown own ticket next : ℕ)
+    (keys : List ℕ) (behind : ℕ) : Type 0 where
   pub there : slice_get s.cells own ≡ Some (Array ticket false)
   pub planned : s.plans ticket
-      ≡ Some (record { segment = segment; size = length keys; grown = Some (suc segment) })
-  pub made : AreMade s ticket keys
-  pub free : slice_get s.cells next ≡ Some (Next (suc segment) 0)
+      ≡ Some (record { segment = segment; size = length keys; grown = Some grown })
+  pub made : AreMade s ticket keys behind
+  pub free : slice_get s.cells next ≡ Some (Next grown (no_next segment grown))
 
--- A step that links an array keeps the rule: the word for the array after the segment's first one names
+-- A step that links an array keeps the rule: the word for the array after the one that it grows names
 -- it, and its ticket's cell is home. It is what a call that stands there wants, whatever number comes
 -- next. No entry comes, so the map stays.
 abbrev pub LinkingKeeps : (K V S : Type 0) → Type 0
@@ -231,13 +233,13 @@ LinkingKeeps K V S =
     (cells : List Cell) (log : List (Note K V S)) → (holds : Holds eq hash place cells log) →
     let h : K → ℕ = hash holds.1.hasher in
     let p : K → ℕ = place holds.1.hasher holds.1.segments in
-    (segment size : ℕ) (kept : List (ℕ × ℕ)) (key : Option K) (c : Call) →
-    StandsAt eq h p (state_of log) segment key c (call.Link (Some (suc segment)) size kept) →
-    (own ticket next : ℕ) (keys : List ℕ) →
-    IsReady (state_of log) segment own ticket next keys →
-    length keys ≡ next_size (Some (suc segment)) size (length kept) →
+    (segment grown size : ℕ) (kept : List (ℕ × ℕ)) (key : Option K) (c : Call) →
+    StandsAt eq h p (state_of log) segment key c (call.Link (Some grown) size kept) →
+    (own ticket next : ℕ) (keys : List ℕ) (behind : ℕ) →
+    IsReady (state_of log) segment grown own ticket next keys behind →
+    length keys ≡ next_size (Some grown) size (length kept) →
     let more : List (Note K V S) =
-    log ++ ArrayLinked ticket segment (Some (suc segment)) keys ∷ [] in
+    log ++ ArrayLinked ticket segment (Some grown) keys behind ∷ [] in
     Holds eq hash place (slice_set (slice_set cells next (ticket, true)) own (0, true)) more
     × EffectAll eq h (keys_of p (state_of log) segment) key (access_of c)
     (seen.Linked ticket (length keys)) (numbered ticket (memory_of (state_of log) segment))
@@ -252,13 +254,13 @@ LinkIsThere K V S =
     (log : List (Note K V S)) → (kept_log : IsKept eq hash place log) →
     let h : K → ℕ = hash kept_log.hasher in
     let p : K → ℕ = place kept_log.hasher kept_log.segments in
-    (segment size : ℕ) (kept : List (ℕ × ℕ)) (key : Option K) (c : Call) →
-    StandsAt eq h p (state_of log) segment key c (call.Link (Some (suc segment)) size kept) →
-    (next array : ℕ) → slice_get (state_of log).cells next ≡ Some (Next (suc segment) array) →
-    array ≢ 0 →
+    (segment grown size : ℕ) (kept : List (ℕ × ℕ)) (key : Option K) (c : Call) →
+    StandsAt eq h p (state_of log) segment key c (call.Link (Some grown) size kept) →
+    (next array : ℕ) → slice_get (state_of log).cells next ≡ Some (Next grown array) →
+    array ≢ no_next segment grown →
     let m : Memory = memory_of (state_of log) segment in
     EffectAll eq h (keys_of p (state_of log) segment) key (access_of c)
-    (seen.Linked array (next_size (Some (suc segment)) size (length kept))) m m
+    (seen.Linked array (length (words_in (state_of log) array))) m m
 
 -- A step that copies a word into an array that was linked keeps the rule, if the word was unset: it is
 -- the one that the array's layout has there. It is what a call that stands there wants. No entry comes,
@@ -289,6 +291,38 @@ CopyIsThere K V =
     word_at (words_in s array) index ≢ Unset →
     EffectAll eq hash known key (access_of c) seen.Copied (memory_of s segment)
     (memory_of s segment)
+
+-- The step that makes the array after a segment's root its root keeps the rule, where the root is still
+-- the one that the call has left: the word for it names the other one. It is what a call that stands
+-- there wants. No entry comes, so the map stays.
+abbrev pub SwingingKeeps : (K V S : Type 0) → Type 0
+SwingingKeeps K V S =
+    (eq : K → K → Bool) (hash : S → K → ℕ) (place : S → ℕ → K → ℕ) → IsDivided eq hash place →
+    (cells : List Cell) (log : List (Note K V S)) → (holds : Holds eq hash place cells log) →
+    let h : K → ℕ = hash holds.1.hasher in
+    let p : K → ℕ = place holds.1.hasher holds.1.segments in
+    (segment from to : ℕ) (key : Option K) (c : Call) →
+    StandsAt eq h p (state_of log) segment key c (call.Swing (Some from) to) → (root : ℕ) →
+    slice_get (state_of log).cells root ≡ Some (Root segment (root_number segment from)) →
+    let more : List (Note K V S) = log ++ Swung segment from to ∷ [] in
+    Holds eq hash place (slice_set cells root (to, true)) more
+    × EffectAll eq h (keys_of p (state_of log) segment) key (access_of c) seen.Swung
+    (memory_of (state_of log) segment) (memory_of (state_of more) segment)
+    × (entries_of more ≡ entries_of log)
+
+-- Where the root is another one by now, such a call leaves all as it is.
+abbrev pub SwingIsThere : (K V S : Type 0) → Type 0
+SwingIsThere K V S =
+    (eq : K → K → Bool) (hash : S → K → ℕ) (place : S → ℕ → K → ℕ) → IsDivided eq hash place →
+    (log : List (Note K V S)) → (kept_log : IsKept eq hash place log) →
+    let h : K → ℕ = hash kept_log.hasher in
+    let p : K → ℕ = place kept_log.hasher kept_log.segments in
+    (segment from to : ℕ) (key : Option K) (c : Call) →
+    StandsAt eq h p (state_of log) segment key c (call.Swing (Some from) to) →
+    (root number : ℕ) → slice_get (state_of log).cells root ≡ Some (Root segment number) →
+    number ≢ root_number segment from →
+    let m : Memory = memory_of (state_of log) segment in
+    EffectAll eq h (keys_of p (state_of log) segment) key (access_of c) seen.Swung m m
 
 -- What a call knew with the keys of a front it knows with those of the log. Where it fits the memory of
 -- a front, with these, it fits that of the log.
@@ -336,16 +370,15 @@ TicketsAreSpentOnce K V S =
     × ((front : List (Note K V S)) → IsFront front log → made_on ticket (entries_of front) ≡ 1 →
     made_on ticket (entries_of log) ≡ 1)
 
--- A word of a segment's first array that isn't as it was after a front is sealed, or was changed by an
--- entry past the front, on another ticket than one whose cell isn't home.
+-- A word of an array that was a segment's root by a front, and isn't as it was after it, is sealed, or
+-- was changed by an entry past the front, on another ticket than one whose cell isn't home.
 abbrev pub WordsChangeByEntries : (K V S : Type 0) → Type 0
 WordsChangeByEntries K V S =
     (eq : K → K → Bool) (hash : S → K → ℕ) (place : S → ℕ → K → ℕ) →
     (log front : List (Note K V S)) → (kept : IsKept eq hash place log) → IsFront front log →
-    (i index : ℕ) → i < kept.segments →
-    word_at (words_in (state_of log) (suc i)) index
-    ≢ word_at (words_in (state_of front) (suc i)) index →
-    (is_sealed (word_at (words_in (state_of log) (suc i)) index) ≡ true)
+    (i a index : ℕ) → IsRooted (state_of front) i a →
+    word_at (words_in (state_of log) a) index ≢ word_at (words_in (state_of front) a) index →
+    (is_sealed (word_at (words_in (state_of log) a) index) ≡ true)
     ⊎ ((e : Entry K V) × (slice_get (entries_of log) (length (entries_of front)) ≡ Some e)
     × ((own ticket : ℕ) → slice_get (state_of log).cells own ≡ Some (Ticket ticket false) →
     e.ticket ≢ ticket))
@@ -370,7 +403,9 @@ pub record ArePut {K V : Type 0} (eq : K → K → Bool) (place : K → ℕ) (es
 abbrev pub FullArrayWasPut : (K V S : Type 0) → Type 0
 FullArrayWasPut K V S =
     (eq : K → K → Bool) (hash : S → K → ℕ) (place : S → ℕ → K → ℕ) →
-    (log : List (Note K V S)) → (kept : IsKept eq hash place log) → (i : ℕ) → i < kept.segments →
-    ((index : ℕ) → index < kept.size →
-    IsSome (node_of (word_at (words_in (state_of log) (suc i)) index))) →
-    ArePut eq (place kept.hasher kept.segments) (entries_of log) i kept.size
+    (log : List (Note K V S)) → (kept : IsKept eq hash place log) → (i a : ℕ) →
+    IsRooted (state_of log) i a →
+    let size : ℕ = length (words_in (state_of log) a) in
+    ((index : ℕ) → index < size →
+    IsSome (node_of (word_at (words_in (state_of log) a) index))) →
+    ArePut eq (place kept.hasher kept.segments) (entries_of log) i size

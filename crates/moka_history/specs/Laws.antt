@@ -1,5 +1,5 @@
 -- What holds of histories.
-use Rattle.std.specs.Prelude.{◌≡◌, ℕ, suc, ◌<◌, Bool, true, false, List, [], ◌∷◌, ◌++◌, length, Option, Some}
+use Rattle.std.specs.Prelude.{◌≡◌, ◌≢◌, ℕ, suc, ◌<◌, Bool, true, false, List, [], ◌∷◌, ◌++◌, length, Option, Some}
 use Rattle.std.specs.List.{slice_get}
 use Rattle.std.specs.Cmp.{IsEquivalence}
 use Rattle.std.specs.Int.{IsPowerOfTwo}
@@ -7,14 +7,14 @@ use Rattle.std.specs.Option.{option_to_list}
 use Rattle.moka_hist.specs.Finite.{put_key}
 use Rattle.moka_words.specs.declared.words.Word.{Word}
 use Rattle.moka_words.specs.Words.{node_of, stored_in}
-use Rattle.moka_words.specs.Effect.{Memory, Links, SetsWord}
+use Rattle.moka_words.specs.Effect.{Memory, Links, SetsWord, Swings, IsUnchanged}
 use Rattle.moka_growth.specs.Sound.{IsSound}
 use Rattle.moka_growth.specs.Maps.{Finds, ChangesMap}
 use Rattle.moka_pairs.specs.Keys.{Respects, own_by}
 use Rattle.moka_pairs.specs.Pairs.{AreKeysOf, map_of}
 use Rattle.moka_pairs.specs.Segments.{SoundAll}
 use Rattle.moka_history.specs.declared.note.Note.{Note}
-use Rattle.moka_history.specs.declared.note.Note.TheVariants.{Opened, Announced, Changed, ArrayAnnounced, CellAdded, CellHome, Sealed, ArrayLinked, Copied}
+use Rattle.moka_history.specs.declared.note.Note.TheVariants.{Opened, Announced, Changed, ArrayAnnounced, CellAdded, CellHome, Sealed, ArrayLinked, Copied, Swung}
 use Rattle.moka_history.specs.Entries.{Entry, IsLegal, map_after, pair_put}
 use Rattle.moka_history.specs.States.{Row, State, IsPlaced, after, memory_of, numbered, unopened, words_in}
 use Rattle.moka_history.specs.Logs.{entries_of, entry_of, entry_with, state_of}
@@ -88,8 +88,9 @@ IsOfRow s (Opened segments length hasher) = ⊥
 IsOfRow s (Announced ticket pair) = ⊥
 IsOfRow s (Changed ticket array index to) = ⊥
 IsOfRow s (Sealed array index to) = ⊥
-IsOfRow s (ArrayLinked ticket segment grown keys) = ⊥
+IsOfRow s (ArrayLinked ticket segment grown keys behind) = ⊥
 IsOfRow s (Copied array index to) = ⊥
+IsOfRow s (Swung segment from to) = ⊥
 
 abbrev pub RowsKeepWords : (K V S : Type 0) → Type 0
 RowsKeepWords K V S =
@@ -110,15 +111,28 @@ CopiedSetsWord K V S =
     SetsWord array index to (memory_of s segment) (memory_of (after s note) segment)
     × IsPlaced (after s note)
 
--- the keys are those of different cells of the ticket's row, which are home
-pub record AreMade {K V : Type 0} (s : State K V) (ticket : ℕ) (keys : List ℕ) : Type 0 where
-  pub home : (i k : ℕ) → slice_get keys i ≡ Some k → slice_get s.cells k ≡ Some (Row ticket true)
-  pub differ : (i j k : ℕ) → slice_get keys i ≡ Some k → slice_get keys j ≡ Some k → i ≡ j
+-- the keys, and the one behind them, are those of different cells of the ticket's row, which are home
+pub record AreMade {K V : Type 0} (s : State K V) (ticket : ℕ) (keys : List ℕ) (behind : ℕ) : Type 0
+  where
+    pub home : (i k : ℕ) → slice_get keys i ≡ Some k → slice_get s.cells k ≡ Some (Row ticket true)
+    pub differ : (i j k : ℕ) → slice_get keys i ≡ Some k → slice_get keys j ≡ Some k → i ≡ j
+    pub last : slice_get s.cells behind ≡ Some (Row ticket true)
+    pub apart : (i k : ℕ) → slice_get keys i ≡ Some k → k ≢ behind
 
 -- whatever number comes next, a link of an array of this number is one of unset words
 abbrev pub LinkAddsArray : (K V S : Type 0) → Type 0
 LinkAddsArray K V S =
-    (s : State K V) (ticket segment : ℕ) (grown : Option ℕ) (keys : List ℕ) (note : Note K V S) →
-    note ≡ ArrayLinked ticket segment grown keys → AreMade s ticket keys →
+    (s : State K V) (ticket segment : ℕ) (grown : Option ℕ) (keys : List ℕ) (behind : ℕ)
+    (note : Note K V S) → note ≡ ArrayLinked ticket segment grown keys behind →
+    AreMade s ticket keys behind →
     Links (length keys) (numbered ticket (memory_of s segment))
     (numbered (suc ticket) (memory_of (after s note) segment))
+
+-- the array after a segment's root becomes its root, and other segments stay
+abbrev pub SwungMovesRoot : (K V S : Type 0) → Type 0
+SwungMovesRoot K V S =
+    (s : State K V) (segment from to : ℕ) (note : Note K V S) → IsPlaced s →
+    note ≡ Swung segment from to →
+    Swings (memory_of s segment) (memory_of (after s note) segment)
+    × ((i : ℕ) → i ≢ segment → IsUnchanged (memory_of s i) (memory_of (after s note) i))
+    × IsPlaced (after s note)

@@ -5,7 +5,7 @@ use Rattle.moka_words.specs.declared.words.Word.{Word}
 use Rattle.moka_words.specs.Words.{node_of, stored_in, word_at}
 use Rattle.moka_pairs.specs.Pairs.{pair_at}
 use Rattle.moka_history.specs.declared.note.Note.{Note}
-use Rattle.moka_history.specs.declared.note.Note.TheVariants.{Opened, Announced, Changed, ArrayAnnounced, CellAdded, CellHome, Sealed, ArrayLinked, Copied}
+use Rattle.moka_history.specs.declared.note.Note.TheVariants.{Opened, Announced, Changed, ArrayAnnounced, CellAdded, CellHome, Sealed, ArrayLinked, Copied, Swung}
 use Rattle.moka_history.specs.Entries.{Entry}
 use Rattle.moka_history.specs.States.{State, after, unopened, words_in}
 
@@ -34,8 +34,9 @@ module _ {K V S : Type 0} where
   entry_of s (CellAdded ticket) = None
   entry_of s (CellHome ticket cell) = None
   entry_of s (Sealed array index to) = None
-  entry_of s (ArrayLinked ticket segment grown keys) = None
+  entry_of s (ArrayLinked ticket segment grown keys behind) = None
   entry_of s (Copied array index to) = None
+  entry_of s (Swung segment from to) = None
 
   abbrev pub state_from : State K V → List (Note K V S) → State K V
   state_from s [] = s

@@ -1,5 +1,5 @@
 -- What each step of a book tells its caller, and that each can be made whatever the book is.
-use Rattle.std.specs.Prelude.{◌≡◌, ◌⊎◌, ℕ, suc, ◌+◌, ◌^◌, ◌==◌, ◌<◌, ◌≤◌, Bool, true, false, List, [], ◌∷◌, ◌++◌, length, Option, Some, None, IsSome, MatchBool}
+use Rattle.std.specs.Prelude.{◌≡◌, ◌≢◌, ◌⊎◌, ℕ, ◌+◌, ◌^◌, ◌==◌, ◌<◌, ◌≤◌, Bool, true, false, List, [], ◌∷◌, ◌++◌, length, Option, Some, None, IsSome, MatchBool}
 use Rattle.std.specs.List.{slice_get}
 use mathlib.Core.List.{IsPrefix}
 use prog.Atomic.{either}
@@ -12,9 +12,9 @@ use Rattle.moka_growth.specs.Calls as call
 use Rattle.moka_growth.specs.Fits.{HasBeenRoot}
 use Rattle.moka_growth.specs.Growing.{next_size, seal_of}
 use Rattle.moka_history.specs.declared.note.Note.{Note}
-use Rattle.moka_history.specs.declared.note.Note.TheVariants.{Opened, Announced, Changed, ArrayAnnounced, CellAdded, CellHome, Sealed, ArrayLinked, Copied}
+use Rattle.moka_history.specs.declared.note.Note.TheVariants.{Opened, Announced, Changed, ArrayAnnounced, CellAdded, CellHome, Sealed, ArrayLinked, Copied, Swung}
 use Rattle.moka_history.specs.Entries.{Entry}
-use Rattle.moka_history.specs.States.{Ticket, Array, Row, Next, State, memory_of}
+use Rattle.moka_history.specs.States.{Ticket, Array, Row, Next, Root, State, memory_of, no_next, root_number}
 use Rattle.moka_history.specs.Logs.{entries_of, entry_of, state_of}
 use Rattle.moka_history.specs.Cells.{cells_of, number_of}
 use Rattle.moka_history.specs.Rules.{IsOpenedFor, IsRowStill, IsKept, Holds}
@@ -45,8 +45,9 @@ module _ {K V S : Type 0} where
   HasCell own (Changed ticket array index to) s = ⊥
   HasCell own (CellHome ticket cell) s = ⊥
   HasCell own (Sealed array index to) s = ⊥
-  HasCell own (ArrayLinked ticket segment grown keys) s = ⊥
+  HasCell own (ArrayLinked ticket segment grown keys behind) s = ⊥
   HasCell own (Copied array index to) s = ⊥
+  HasCell own (Swung segment from to) s = ⊥
 
   -- the cell that the note brings home is so, in a row for its ticket
   abbrev pub IsBrought : Note K V S → State K V → Type 0
@@ -57,14 +58,16 @@ module _ {K V S : Type 0} where
   IsBrought (ArrayAnnounced ticket segment size grown) s = ⊥
   IsBrought (CellAdded ticket) s = ⊥
   IsBrought (Sealed array index to) s = ⊥
-  IsBrought (ArrayLinked ticket segment grown keys) s = ⊥
+  IsBrought (ArrayLinked ticket segment grown keys behind) s = ⊥
   IsBrought (Copied array index to) s = ⊥
+  IsBrought (Swung segment from to) s = ⊥
 
   -- the array that the note links was ready for it: its ticket's cell is `own`, and `next` is the word
-  -- for the array after the segment's first one
+  -- for the array after the one that it grows
   abbrev pub WasReady : (own next : ℕ) → Note K V S → State K V → Type 0
-  WasReady own next (ArrayLinked ticket segment grown keys) s =
-      IsReady s segment own ticket next keys
+  WasReady own next (ArrayLinked ticket segment (Some grown) keys behind) s =
+      IsReady s segment grown own ticket next keys behind
+  WasReady own next (ArrayLinked ticket segment None keys behind) s = ⊥
   WasReady own next (Opened segments size hasher) s = ⊥
   WasReady own next (Announced ticket pair) s = ⊥
   WasReady own next (Changed ticket array index to) s = ⊥
@@ -73,6 +76,7 @@ module _ {K V S : Type 0} where
   WasReady own next (CellHome ticket cell) s = ⊥
   WasReady own next (Sealed array index to) s = ⊥
   WasReady own next (Copied array index to) s = ⊥
+  WasReady own next (Swung segment from to) s = ⊥
 
   -- the cell holds the number after this log
   abbrev pub HoldsThere : (key number : ℕ) → List (Note K V S) → Type 0
@@ -153,6 +157,13 @@ module _ {K V S : Type 0} (eq : K → K → Bool) (hash : S → K → ℕ) (plac
       ((added : Added s v found w) × (entries_of w.0 ≡ entries_of added.log))
       (Looks s v found w)
 
+  -- the root was swung, and no entry came; or it is another one by now
+  abbrev pub Swings : Step (Note K V S) → View (Note K V S) ℕ → ℕ → View (Note K V S) ℕ →
+      Type 0
+  Swings s v found w = MatchBool (found == s.old)
+      ((added : Added s v found w) × (entries_of w.0 ≡ entries_of added.log))
+      (Looks s v found w)
+
 -- the door, or a place that an array has after this log
 abbrev pub IsPlace : {K V S : Type 0} → (key : ℕ) → List (Note K V S) → Type 0
 IsPlace key log = (key ≡ 0)
@@ -208,6 +219,7 @@ ArrayAnnouncingMoves K V S =
     (eq : K → K → Bool) (hash : S → K → ℕ) (place : S → ℕ → K → ℕ) → IsDivided eq hash place →
     (front : List (Note K V S)) (drawn ticket segment size : ℕ) (grown : Option ℕ) →
     0 < length front → ticket ≡ (state_of front).segments + (drawn + 1) → ticket ≤ 2 ^ 60 →
+    ((g : ℕ) → grown ≡ Some g → g ≤ (state_of front).last) →
     Moves (Holds eq hash place) shown moved 0 (front, (no_nib, None))
     (λ n. either (n == drawn) (drawn + 1) n)
     (AnnouncesArray eq hash place
@@ -252,34 +264,37 @@ SealingMoves K V S =
 
 -- the array of a ticket is ready to be linked after this front, if the ticket isn't home and nothing was
 -- linked there
-pub record MayLink {K V : Type 0} (s : State K V) (segment own ticket next : ℕ) (keys : List ℕ)
-    : Type 0 where
+pub record MayLink {K V : Type 0} (s : State K V) (segment grown own ticket next : ℕ)
+    (keys : List ℕ) (behind : ℕ) : Type 0 where
   pub home : Bool
   pub there : slice_get s.cells own ≡ Some (Array ticket home)
   pub planned : s.plans ticket
-      ≡ Some (record { segment = segment; size = length keys; grown = Some (suc segment) })
+      ≡ Some (record { segment = segment; size = length keys; grown = Some grown })
   pub each : (i k : ℕ) → slice_get keys i ≡ Some k → IsRowStill s k ticket true
   pub differ : (i j k : ℕ) → slice_get keys i ≡ Some k → slice_get keys j ≡ Some k → i ≡ j
+  pub last : IsRowStill s behind ticket true
+  pub apart : (i k : ℕ) → slice_get keys i ≡ Some k → k ≢ behind
   pub array : ℕ
-  pub free : slice_get s.cells next ≡ Some (Next (suc segment) array)
+  pub free : slice_get s.cells next ≡ Some (Next grown array)
 
--- An exchange of the word for the array after a segment's first one, by a call that stands there after
--- a front, with a row whose ticket's cell the pen writes.
+-- An exchange of the word for the array after another one, by a call that stands there after a front,
+-- with a row whose ticket's cell the pen writes.
 abbrev pub LinkingMoves : (K V S : Type 0) → Type 0
 LinkingMoves K V S =
     (eq : K → K → Bool) (hash : S → K → ℕ) (place : S → ℕ → K → ℕ) → IsDivided eq hash place →
     (segments first : ℕ) (hasher : S) (front : List (Note K V S)) →
     IsOpenedFor segments first hasher front →
-    (segment size : ℕ) (kept : List (ℕ × ℕ)) (key : Option K) (c : Call) →
+    (segment grown size : ℕ) (kept : List (ℕ × ℕ)) (key : Option K) (c : Call) →
     StandsAt eq (hash hasher) (place hasher segments) (state_of front) segment key c
-    (call.Link (Some (suc segment)) size kept) →
-    (own ticket next : ℕ) (keys : List ℕ) →
-    MayLink (state_of front) segment own ticket next keys →
-    length keys ≡ next_size (Some (suc segment)) size (length kept) →
+    (call.Link (Some grown) size kept) →
+    (own ticket next : ℕ) (keys : List ℕ) (behind : ℕ) →
+    MayLink (state_of front) segment grown own ticket next keys behind →
+    length keys ≡ next_size (Some grown) size (length kept) →
+    let none : ℕ = no_next segment grown in
     Moves (Holds eq hash place) shown moved next (front, (nib may_write own 0, None))
-    (λ n. either (n == 0) ticket n)
+    (λ n. either (n == none) ticket n)
     (Joins eq hash place
-    (step next 0 ticket (ArrayLinked ticket segment (Some (suc segment)) keys))
+    (step next none ticket (ArrayLinked ticket segment (Some grown) keys behind))
     (front, (nib may_write own 0, None)))
 
 -- An exchange of an unset word of an array that was linked, by a call that stands there after a front.
@@ -297,3 +312,18 @@ CopyingMoves K V S =
     (λ n. either (n == 1) (number_of to) n)
     (Copies eq hash place (step bucket 1 (number_of to) (Copied array index to))
     (front, (no_nib, None)))
+
+-- An exchange of the word for a segment's root, by a call that stands there after a front.
+abbrev pub SwingingMoves : (K V S : Type 0) → Type 0
+SwingingMoves K V S =
+    (eq : K → K → Bool) (hash : S → K → ℕ) (place : S → ℕ → K → ℕ) → IsDivided eq hash place →
+    (segments first : ℕ) (hasher : S) (front : List (Note K V S)) →
+    IsOpenedFor segments first hasher front →
+    (segment from to : ℕ) (key : Option K) (c : Call) →
+    StandsAt eq (hash hasher) (place hasher segments) (state_of front) segment key c
+    (call.Swing (Some from) to) →
+    (root number : ℕ) → slice_get (state_of front).cells root ≡ Some (Root segment number) →
+    let was : ℕ = root_number segment from in
+    Moves (Holds eq hash place) shown moved root (front, (no_nib, None))
+    (λ n. either (n == was) to n)
+    (Swings eq hash place (step root was to (Swung segment from to)) (front, (no_nib, None)))

@@ -6,13 +6,14 @@ use Rattle.moka_words.specs.declared.words.Word.{Word}
 use Rattle.moka_words.specs.declared.words.Word.TheVariants.{Unset, Empty}
 use Rattle.moka_words.specs.Effect.{Memory}
 use Rattle.moka_history.specs.declared.note.Note.{Note}
-use Rattle.moka_history.specs.declared.note.Note.TheVariants.{Opened, Announced, Changed, ArrayAnnounced, CellAdded, CellHome, Sealed, ArrayLinked, Copied}
+use Rattle.moka_history.specs.declared.note.Note.TheVariants.{Opened, Announced, Changed, ArrayAnnounced, CellAdded, CellHome, Sealed, ArrayLinked, Copied, Swung}
 
 -- What a cell is: the one by which tickets are drawn; that of a bucket, with its word; that of a
 -- ticket, which comes home with the change that is made on the ticket; that of a ticket on which an
 -- array is announced, which comes home as the array is linked; one of a row that was added for the
--- array of this ticket; or the one that names the array after this one, 0 while there is none. A
--- row's cell that is home holds an unset word, which is part of no array until that is linked.
+-- array of this ticket; the one that names the array after this one, `no_next` while there is none; or the
+-- one that names a segment's root, 0 while that is its first array. A row's cell that is home holds an
+-- unset word, which is part of no array until that is linked.
 pub data Owner : Type 0 where
   Door : Owner
   Bucket : (word : Word) → Owner
@@ -20,6 +21,7 @@ pub data Owner : Type 0 where
   Array : (number : ℕ) (home : Bool) → Owner
   Row : (number : ℕ) (home : Bool) → Owner
   Next : (array to : ℕ) → Owner
+  Root : (segment to : ℕ) → Owner
 
 -- what an array is announced for: its segment, how many words it is to have, and the array that it
 -- grows, if it isn't the first one
@@ -30,7 +32,7 @@ pub record Plan : Type 0 where
 
 -- the number of segments, the last ticket, the pair of each number, the plan of each ticket on which
 -- an array is announced, the cells, by their keys, for each array the keys of its cells, and for each
--- segment the arrays that were linked after its first one, in order
+-- segment the arrays that were linked after its first one, in order, and how many have been its root
 pub record State (K V : Type 0) : Type 0 where
   pub segments : ℕ
   pub last : ℕ
@@ -39,6 +41,7 @@ pub record State (K V : Type 0) : Type 0 where
   pub cells : List Owner
   pub arrays : ℕ → List ℕ
   pub links : ℕ → List ℕ
+  pub rooted : ℕ → ℕ
 
 -- the word of a cell, if it is that of a bucket
 abbrev pub word_of : Owner → Word
@@ -48,6 +51,7 @@ word_of (Ticket n home) = Unset
 word_of (Array n home) = Unset
 word_of (Row n home) = Unset
 word_of (Next a to) = Unset
+word_of (Root i to) = Unset
 
 abbrev pub word_in : List Owner → (key : ℕ) → Word
 word_in cells key = word_of (slice_index_or cells key Door)
@@ -60,14 +64,15 @@ spent ticket (Ticket n home) = Ticket n (cond (n == ticket) true home)
 spent ticket (Array n home) = Array n home
 spent ticket (Row n home) = Row n home
 spent ticket (Next a to) = Next a to
+spent ticket (Root i to) = Root i to
 
 -- this array is the one that is grown
 abbrev pub is_grown : (grown : Option ℕ) → (array : ℕ) → Bool
 is_grown None a = false
 is_grown (Some g) a = a == g
 
--- the cell, after the array of this ticket was linked, past the one that it grows: those of its row
--- are buckets of unset words
+-- The cell, after the array of this ticket was linked, past the one that it grows: those of its row
+-- are buckets of unset words. The one that is to name the array after it is told apart then.
 abbrev pub joined : (ticket : ℕ) (grown : Option ℕ) → Owner → Owner
 joined ticket grown Door = Door
 joined ticket grown (Bucket w) = Bucket w
@@ -76,6 +81,26 @@ joined ticket grown (Array n home) = Array n (cond (n == ticket) true home)
 joined ticket grown (Row n false) = Row n false
 joined ticket grown (Row n true) = cond (n == ticket) (Bucket Unset) (Row n true)
 joined ticket grown (Next a to) = Next a (cond (is_grown grown a) ticket to)
+joined ticket grown (Root i to) = Root i to
+
+-- the cell, after the root of a segment became this array
+abbrev pub swung : (segment to : ℕ) → Owner → Owner
+swung segment to Door = Door
+swung segment to (Bucket w) = Bucket w
+swung segment to (Ticket n home) = Ticket n home
+swung segment to (Array n home) = Array n home
+swung segment to (Row n home) = Row n home
+swung segment to (Next a t) = Next a t
+swung segment to (Root i t) = Root i (cond (i == segment) to t)
+
+-- by which number a segment's root is named: its first array by 0
+abbrev pub root_number : (segment array : ℕ) → ℕ
+root_number segment array = cond (array == suc segment) 0 array
+
+-- by which number no array is named after this one of the segment: a cell of the opening holds 0, and one
+-- that was added 1
+abbrev pub no_next : (segment array : ℕ) → ℕ
+no_next segment array = cond (array == suc segment) 0 1
 
 -- the keys of an array's cells, as a table is opened: those of the first array come after the door,
 -- and those of each other one after the array before
@@ -87,6 +112,10 @@ first_keys segments length (suc i) =
 -- the cells that name the array after the first one of each segment: no array so far
 abbrev pub first_nexts : (segments : ℕ) → List Owner
 first_nexts segments = map (λ i. Next (suc i) 0) (range_with_len 0 segments)
+
+-- the cells that name the root of each segment: its first array
+abbrev pub first_roots : (segments : ℕ) → List Owner
+first_roots segments = map (λ i. Root i 0) (range_with_len 0 segments)
 
 -- the memory, where the next array gets this number
 abbrev pub numbered : (fresh : ℕ) → Memory → Memory
@@ -104,6 +133,7 @@ module _ {K V : Type 0} where
         cells = [];
         arrays = λ a. [];
         links = λ i. [];
+        rooted = λ i. 0;
       }
 
   -- the words of an array, and the key of one's cell
@@ -113,14 +143,18 @@ module _ {K V : Type 0} where
   abbrev pub key_at : State K V → (array index : ℕ) → ℕ
   key_at s array index = slice_index_or (s.arrays array) index 0
 
-  -- The memory of the segment of this number, from 0 on: its first array is the next number, which is
-  -- its root, and then come those that were linked. Tombstones and keys aren't counted.
+  -- the arrays of the segment of this number, from 0 on: its first one is the next number, and then come
+  -- those that were linked
+  abbrev pub chain : State K V → (segment : ℕ) → List ℕ
+  chain s segment = suc segment ∷ s.links segment
+
+  -- The memory of that segment. Tombstones and keys aren't counted.
   abbrev pub memory_of : State K V → (segment : ℕ) → Memory
   memory_of s segment =
       record {
         words = words_in s;
-        arrays = suc segment ∷ s.links segment;
-        rooted = 1;
+        arrays = chain s segment;
+        rooted = s.rooted segment;
         fresh = suc s.last;
         tombstones = λ a. 0;
         len = 0;
@@ -141,9 +175,12 @@ module _ {K V S : Type 0} where
         last = segments;
         pairs = λ n. None;
         plans = λ n. None;
-        cells = Door ∷ (replicate (segments * length) (Bucket Empty) ++ first_nexts segments);
+        cells =
+            Door ∷ (replicate (segments * length) (Bucket Empty)
+            ++ (first_nexts segments ++ first_roots segments));
         arrays = first_keys segments length;
         links = λ i. [];
+        rooted = λ i. 1;
       }
   after s (Announced ticket pair) =
       record s {
@@ -166,11 +203,16 @@ module _ {K V S : Type 0} where
   after s (CellHome ticket cell) = record s { cells = slice_set s.cells cell (Row ticket true) }
   after s (Sealed array index to) =
       record s { cells = slice_set s.cells (key_at s array index) (Bucket to) }
-  after s (ArrayLinked ticket segment grown keys) =
+  after s (ArrayLinked ticket segment grown keys behind) =
       record s {
-        cells = map (joined ticket grown) s.cells;
+        cells = slice_set (map (joined ticket grown) s.cells) behind (Next ticket 1);
         arrays = put_at s.arrays ticket keys;
         links = put_at s.links segment (s.links segment ++ ticket ∷ []);
       }
   after s (Copied array index to) =
       record s { cells = slice_set s.cells (key_at s array index) (Bucket to) }
+  after s (Swung segment from to) =
+      record s {
+        cells = map (swung segment to) s.cells;
+        rooted = put_at s.rooted segment (suc (s.rooted segment));
+      }

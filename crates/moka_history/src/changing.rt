@@ -1,6 +1,6 @@
 //! Laws of what notes make of the words.
 
-ghost use Rattle.moka_history.specs.Laws.{AnnouncedKeepsWords, ChangedSetsWord, CopiedSetsWord, LinkAddsArray, OpenedIsSound, RowsKeepWords, SealedSetsWord};
+ghost use Rattle.moka_history.specs.Laws.{AnnouncedKeepsWords, ChangedSetsWord, CopiedSetsWord, LinkAddsArray, OpenedIsSound, RowsKeepWords, SealedSetsWord, SwungMovesRoot};
 
 /// A table that was just opened has sound segments, of empty words alone, if its arrays are as long
 /// as a power of two.
@@ -36,4 +36,9 @@ pub fn link_adds_array<K, V, S>()
 /// A copy sets its word, and no other, in the memory of each segment.
 pub fn copied_sets_word<K, V, S>()
     ensures sets { CopiedSetsWord K V S }
+{}
+
+/// A swing makes the array after a segment's root its root, and changes no word.
+pub fn swung_moves_root<K, V, S>()
+    ensures swings { SwungMovesRoot K V S }
 {}

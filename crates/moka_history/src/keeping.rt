@@ -1,6 +1,6 @@
 //! Laws of the rule that the cells of a book keep with its log.
 
-ghost use Rattle.moka_history.specs.Keeping.{AnnouncingKeeps, ArrayAnnouncingKeeps, ArraysHaveRows, CellAddingKeeps, CellBringingKeeps, CellsHoldWords, ChangingKeeps, CopyIsThere, CopyingKeeps, LinkIsThere, LinkingKeeps, LookKeeps, NumbersTellWords, OpeningIsKept, SealingKeeps};
+ghost use Rattle.moka_history.specs.Keeping.{AnnouncingKeeps, ArrayAnnouncingKeeps, ArraysHaveRows, CellAddingKeeps, CellBringingKeeps, CellsHoldWords, ChangingKeeps, CopyIsThere, CopyingKeeps, LinkIsThere, LinkingKeeps, LookKeeps, NumbersTellWords, OpeningIsKept, SealingKeeps, SwingIsThere, SwingingKeeps};
 
 /// The book of a table that was just opened keeps the rule.
 pub fn opening_is_kept<K, V, S>()
@@ -79,4 +79,15 @@ pub fn copying_keeps<K, V, S>()
 /// Where the word is set, such a call leaves it.
 pub fn copy_is_there<K, V>()
     ensures there { CopyIsThere K V }
+{}
+
+/// The step that makes the array after a segment's root its root keeps the rule, and adds no entry. It is
+/// what a call of the segment wants that has seen each word of that array set.
+pub fn swinging_keeps<K, V, S>()
+    ensures keeps { SwingingKeeps K V S }
+{}
+
+/// Where the root is another one by now, such a call leaves all as it is.
+pub fn swing_is_there<K, V, S>()
+    ensures there { SwingIsThere K V S }
 {}

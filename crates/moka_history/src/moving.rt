@@ -1,6 +1,6 @@
 //! Laws of steps over the words of a book: each can be made, whatever the book is by then.
 
-ghost use Rattle.moka_history.specs.Moving.{AnnouncingMoves, ArrayAnnouncingMoves, CellAddingMoves, CellBringingMoves, ChangingMoves, CopyingMoves, LinkingMoves, LookMoves, SealingMoves};
+ghost use Rattle.moka_history.specs.Moving.{AnnouncingMoves, ArrayAnnouncingMoves, CellAddingMoves, CellBringingMoves, ChangingMoves, CopyingMoves, LinkingMoves, LookMoves, SealingMoves, SwingingMoves};
 
 /// A load of a word leaves the book. Its caller has seen the log so far, in which the word is the one
 /// that it read.
@@ -44,8 +44,8 @@ pub fn sealing_moves<K, V, S>()
     ensures moves { SealingMoves K V S }
 {}
 
-/// An exchange of the word for the array after a segment's first one links an array that was made for
-/// it, and brings its ticket home; or it leaves the book, where another one was linked meanwhile.
+/// An exchange of the word for the array after another one links an array that was made for it, and
+/// brings its ticket home; or it leaves the book, where another one was linked meanwhile.
 pub fn linking_moves<K, V, S>()
     ensures moves { LinkingMoves K V S }
 {}
@@ -54,4 +54,10 @@ pub fn linking_moves<K, V, S>()
 /// book, where the word is set by now.
 pub fn copying_moves<K, V, S>()
     ensures moves { CopyingMoves K V S }
+{}
+
+/// An exchange of the word for a segment's root makes the array after it the root; or it leaves the book,
+/// where the root is another one by now.
+pub fn swinging_moves<K, V, S>()
+    ensures moves { SwingingMoves K V S }
 {}

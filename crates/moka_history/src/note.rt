@@ -49,17 +49,25 @@ pub enum Note<K, V, S> {
         to: Word,
     },
     /// The array that is announced on this ticket was linked in this segment, after the array that it
-    /// grows. Its words have the cells of these keys, in order.
+    /// grows. Its words have the cells of these keys, in order, and the cell behind them names the array
+    /// after it.
     ArrayLinked {
         ticket: u64,
         segment: usize,
         grown: Option<u64>,
         keys: LinkedList<u64>,
+        behind: u64,
     },
     /// The word of the array, which was unset, was exchanged for the one that its layout has there.
     Copied {
         array: u64,
         index: usize,
         to: Word,
+    },
+    /// The segment's root was the first of these arrays, and is the other one, which follows it.
+    Swung {
+        segment: usize,
+        from: u64,
+        to: u64,
     },
 }

@@ -45,6 +45,11 @@ module _ {K V E : Type 0} where
       option_map (λ test. found.value) (replace_of aim)
   tested_in _ = None
 
+  -- the key of the load whose owner's end the plan's first item reads, if it reads one
+  abbrev pub key_read : List (Item K V E) → Option K
+  key_read (plan.Read sought ∷ rest) = Some sought.load.key
+  key_read _ = None
+
   -- the plan's first item judges a record that a look found; one of a walk raises no moment, but
   -- judges by the one that is kept
   abbrev pub carries_in : List (Item K V E) → Bool

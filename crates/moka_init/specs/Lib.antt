@@ -5,3 +5,4 @@ pub mod Grounds
 pub mod Telling
 pub mod Steps
 pub mod Needs
+pub mod Openings

@@ -7,7 +7,7 @@ ghost use Rattle.std.specs.Option.{option_map};
 ghost use Rattle.moka_needs.specs.Reads.{kind_read};
 ghost use Rattle.moka_init.specs.PointPlan.{aim_of, listening_plan};
 ghost use Rattle.moka_init.specs.FlowPlan.{carries_in, opening, retires_in, takes_told};
-ghost use Rattle.moka_init.specs.FlowPlan.{tested_in};
+ghost use Rattle.moka_init.specs.FlowPlan.{key_read, tested_in};
 
 use crate::copies::{key_locked, replace_of};
 use crate::flow::Flow;
@@ -116,6 +116,16 @@ impl<K, V, E> Flow<K, V, E> {
         match &self.point {
             Point::Loading(Loading::Read(sought)) => Some(sought.load.kind),
             Point::Computing(Computing::Read(_)) => Some(Kind::Compute),
+            _ => None,
+        }
+    }
+
+    /// The key of the load whose owner's end the call's next visit reads, if it reads one of a load.
+    pub fn key_read(&self) -> Option<&K>
+        ensures { option_map (λ key. key.now) result ≡ key_read (call_of self.now).plan }
+    {
+        match &self.point {
+            Point::Loading(Loading::Read(sought)) => Some(&sought.load.key),
             _ => None,
         }
     }

@@ -1,5 +1,5 @@
 //! The next access of a flow.
-ghost use Rattle.std.specs.Prelude.{◌≡◌, [], ◌∷◌, true, false, None, IfOk, OnOk, OnErr};
+ghost use Rattle.std.specs.Prelude.{◌≡◌, [], ◌∷◌, true, false, None, IfOk, IsOk, OnOk, OnErr};
 ghost use Rattle.moka_hist.specs.Plan as plan;
 ghost use Rattle.moka_hist.specs.Step.{access_of, want_for};
 ghost use Rattle.moka_init.specs.FlowPlan.{call_of, standing, IsLive, IsReady, StandsStill};
@@ -41,10 +41,12 @@ impl<K: Exact, V: Exact, E: Exact> Flow<K, V, E> {
         self.wanted()
     }
 
-    // Makes the copies of what is needed twice, where the flow stands there without them.
-    fn copy(&mut self) -> Result<(), AllocError>
+    /// Makes the copies of what is needed twice, where the flow stands there without them. Where it
+    /// has them no memory is wanting.
+    pub fn copy(&mut self) -> Result<(), AllocError>
         ensures ready { OnOk result (IsReady self.new) }
         ensures still { StandsStill self.old self.new }
+        ensures copied { is_copied self.old.point ≡ true → IsOk result }
         ensures err { OnErr result (TakesCopies (access_at self.old)) }
     {
         if self.is_copied() {

@@ -1,7 +1,11 @@
-pub mod Ways
-pub mod Reached
-pub mod Wanting
-pub mod Keeping
-pub mod Stopping
-pub mod Looks
 pub mod Finding
+pub mod FirstHold
+pub mod Keeping
+pub mod Looks
+pub mod Meeting
+pub mod Noting
+pub mod Opened
+pub mod Reached
+pub mod Stopping
+pub mod Wanting
+pub mod Ways

@@ -1,5 +1,5 @@
 -- What a look finds in the table, and in the world that is kept; and that it changes nothing.
-use Rattle.std.proofs.Common.{◌≡◌, ◌≢◌, ℕ, nat_le, Bool, false, ◌&&◌, ◌||◌, List, [], ◌∷◌, Option, Some, None, refl, sym, ap, ◌∙◌, arith}
+use Rattle.std.proofs.Common.{◌≡◌, ◌≢◌, ℕ, nat_le, Bool, true, false, ◌&&◌, ◌||◌, List, [], ◌∷◌, Option, Some, None, refl, sym, ap, ◌∙◌, arith}
 use Rattle.std.proofs.Math.Bool.{and-false}
 use Rattle.std.specs.List.{list_any}
 use Rattle.std.specs.HashMap.{hash_map_len}
@@ -23,6 +23,8 @@ use Rattle.moka_table.specs.Map.{Moves, Pairs, SameMap}
 use Rattle.moka_table.specs.Plain.{map_of, peak_of, plain_table}
 use Rattle.moka_table.specs.declared.plain.PlainTable.{PlainTable}
 use Rattle.moka_kept.specs.Counts.{mark_found, mark_of, sees, shows}
+use Rattle.moka_laws.specs.Fair.{TableFair}
+use Rattle.std.proofs.lemmas.Bool.{false≢true}
 use Rattle.moka_kept.specs.Kept.{CacheLayers, IsKept, in_hand}
 
 module _ {K V : Type 0} (eq : K → K → Bool) where
@@ -62,9 +64,9 @@ seen w none (Some pair) =
 
 module _ {K V E S H : Type 0} {same : PartialEq.Ghosts K} {hash : Hash.Ghosts K} {build : BuildHasher.Ghosts S H} {hasher : Hasher.Ghosts H} (eq : K → K → Bool) where
   -- a table that is as it was leaves the world that is kept
-  pub kept_table : (layers : CacheLayers K V E S H same hash build hasher) (table : PlainTable K V S H) → SameMap (map_of eq layers.table) (map_of eq table)
-      → hash_map_len table.pairs ≡ hash_map_len layers.table.pairs → peak_of table ≡ peak_of layers.table → IsKept eq layers → IsKept eq (record layers { table = table })
-  kept_table layers table map count peak kept =
+  pub kept_table : (holds : K → V → Type 0) (ends : ℕ → Option K) (layers : CacheLayers K V E S H same hash build hasher) (table : PlainTable K V S H) → SameMap (map_of eq layers.table) (map_of eq table)
+      → hash_map_len table.pairs ≡ hash_map_len layers.table.pairs → peak_of table ≡ peak_of layers.table → IsKept eq holds ends layers → IsKept eq holds ends (record layers { table = table })
+  kept_table holds ends layers table map count peak kept =
       let there = kept.stands.table in
       let most = there.peak in
       record {
@@ -80,6 +82,8 @@ module _ {K V E S H : Type 0} {same : PartialEq.Ghosts K} {hash : Hash.Ghosts K}
         decided = kept.decided;
         none_begun = kept.none_begun;
         unlisted = kept.unlisted;
+        stored = kept.stored;
+        ended = kept.ended;
       }
 
   -- where the layers stand for a world, a get sees what their table has of the key where it is visible
@@ -88,3 +92,13 @@ module _ {K V E S H : Type 0} {same : PartialEq.Ghosts K} {hash : Hash.Ghosts K}
   sees_there layers w key stands =
       seen w stands.handed.predicates (w.table.stored key)
       ∙ ap (λ o. shows w.desk (option_map (λ pair. mark_of pair.1) o)) (sym (stands.table.map key))
+
+-- a record that is shown was found, and its value meets the fact for the key that was looked up
+pub shown_meets : {K V E : Type 0} (eq : K → K → Bool) (holds : K → V → Type 0)
+    → ((a b : K) (value : V) → eq a b ≡ true → holds a value → holds b value) → (stored : K → Option (K × Stored V)) → TableFair holds eq stored
+    → (w : DeskPart K V E) (key : K) → shows w (option_map (λ pair. mark_of pair.1) (stored key)) ≡ true → (value : V) × holds key value
+shown_meets {K} {V} {E} eq holds alike stored fair w key is = by (stored key) refl is
+  where
+    by : (o : Option (K × Stored V)) → stored key ≡ o → shows w (option_map (λ pair. mark_of pair.1) o) ≡ true → (value : V) × holds key value
+    by None e is = absurd (false≢true is)
+    by (Some pair) e is = let met = fair key pair e in (pair.1.value, alike pair.0 key pair.1.value met.1 met.0)

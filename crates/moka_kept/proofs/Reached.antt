@@ -26,6 +26,9 @@ use Rattle.moka_layers.proofs.Wanted.{none_begun}
 use Rattle.moka_table.specs.Plain.{plain_left, plain_table}
 use Rattle.moka_table.specs.declared.plain.PlainCall.{PlainCall}
 use Rattle.moka_needs.specs.Reads.{ReadsItsKind}
+use Rattle.moka_laws.specs.Fair.{TableFair}
+use Rattle.moka_kept.specs.Facts.{EndIsNoted, EndsMeet, ReadsSo, facts, pair_by}
+use Rattle.moka_kept.proofs.Meeting.{ends_meet, table_meets}
 use Rattle.moka_kept.specs.Kept.{CacheLayers, IsKept, MayMake, MayReach, ReachIs, in_hand}
 use Rattle.moka_kept.specs.Taking.{Taken, TookBy}
 use Rattle.moka_kept.specs.Paths.{EndedWith}
@@ -64,44 +67,6 @@ may_want {K} {V} {E} S H eq begun flow w none has may =
     (subst (λ (o : Option (Access K V E)). MatchOption o ⊥ (λ access. May w access)) (sym has) may)
 
 module _ {K V E S H : Type 0} {same : PartialEq.Ghosts K} {hash : Hash.Ghosts K} {build : BuildHasher.Ghosts S H} {hasher : Hasher.Ghosts H} (eq : K → K → Bool) where
-  -- the world, as the call of a number that was given out reaches it
-  pub reached_by : (layers : CacheLayers K V E S H same hash build hasher) (call : ℕ) (kept : IsKept eq layers) → call ≤ kept.world.desk.last
-      → ReachIs eq (record layers { call = call }) kept.world
-  reached_by layers call kept given =
-      let t = plain_table {K = K} {V = V} {S = S} {H = H} eq in
-      let peak = kept.stands.table.peak in
-      let never = none_so_often kept.world.stay call kept.decided in
-      let patient : times_of kept.world.stay call + most_on t layers.table ≤ most_undecided kept.world.table = omega (arith, peak, never) in
-      record {
-        ground = record {
-          world = record { table = kept.stands.table; desk = kept.stands.desk; handed = kept.stands.handed; stay = kept.stands.stay };
-          begun = subst (λ (b : Option (PlainCall K V)). BegunIs t layers.table call b kept.world.table kept.world.stay) (sym kept.none_begun)
-              (record { fits = tt; within = omega arith; patient = patient; listing = kept.unlisted call });
-          given = given;
-        };
-        sound = kept.sound;
-        log = kept.log;
-        decided = kept.decided;
-        unlisted = kept.unlisted;
-      }
-
-  -- the world, with a state of the desk that allows what is wanted
-  abbrev pub allowing : (layers : CacheLayers K V E S H same hash build hasher) (kept : IsKept eq layers) (P : DeskPart K V E → Type 0) → AllowsAlike eq layers.desk kept.world.desk P → IsKept eq layers
-  allowing layers kept P alike = record {
-    world = record kept.world { desk = with_past kept.world.desk alike.applied alike.notices };
-    stands = record { table = kept.stands.table; desk = alike.stands; handed = kept.stands.handed; stay = kept.stands.stay };
-    sound = alike.sound kept.sound;
-    log = kept.log;
-    decided = kept.decided;
-    none_begun = kept.none_begun;
-    unlisted = kept.unlisted;
-  }
-
-  -- such a world where nothing is begun is kept
-  pub kept_of : (layers : CacheLayers K V E S H same hash build hasher) (w : World K V E) → ReachIs eq layers w → layers.begun ≡ None → IsKept eq layers
-  kept_of layers w reach none =
-      record { world = w; stands = reach.ground.world; sound = reach.sound; log = reach.log; decided = reach.decided; none_begun = none; unlisted = reach.unlisted }
-
   -- an access keeps all of it
   pub gives_reach : VisitsKeepSound K V E eq → (old new : CacheLayers K V E S H same hash build hasher) (access : Access K V E) (given : Got K V E)
       → Serves eq (plain_table eq) in_hand old access given new → given ≢ got.Table table.Going
@@ -172,35 +137,87 @@ module _ {K V E S H : Type 0} {same : PartialEq.Ghosts K} {hash : Hash.Ghosts K}
     begun = subst (λ (b : Option (PlainCall K V)). HasBegun (operation_in (plain_table {S = S} {H = H} eq) b) flow) (sym none) has;
   }
 
-  pub fits_on : (layers : CacheLayers K V E S H same hash build hasher) (call : ℕ) (flow : Flow K V E) (kept : IsKept eq layers) → call ≤ kept.world.desk.last → HasBegun None flow
-      → May kept.world (access_at flow) → MayReach eq (record layers { call = call }) (wish_of flow)
-  fits_on layers call flow kept given has may = (kept.world, reached_by layers call kept given, may_want S H eq layers.begun flow kept.world kept.none_begun has may)
-
-  -- the step of a flow, in a world that the ground stands for
-  pub step_ends : (such : Taken V E → Type 0) (old new : CacheLayers K V E S H same hash build hasher) (flow : Flow K V E) (next : Next K V E) (w : World K V E) → ReachIs eq old w → ReadsItsKind w.desk flow.call (call_of flow) → May w (access_at flow)
-      → ((given : Got K V E) (after : World K V E) → Gets eq flow.call w (access_at flow) given after → TookBy (access_at flow) given such)
-      → MovesThere eq (ReachIs eq old) flow next (ReachIs eq new) → EndedWith eq such flow.call (call_of flow) next
-  step_ends such old new flow next w reach ends may took moves =
-      let m = moves.3 w reach may in record {
-        call = call_of flow;
-        came = ([], refl);
-        given = moves.0;
-        last = record { world = w; after = m.0; sound = reach.sound; ends = ends; may = may; gets = m.1 };
-        took = took moves.0 m.0 m.1;
-        follows = moves.2;
-      }
-
-  pub step_keeps : {A F : Type 0} (r : Result A F) (next : A → Next K V E) (old new : CacheLayers K V E S H same hash build hasher) (flow : Flow K V E) (w : World K V E) → ReachIs eq old w → May w (access_at flow)
-      → IfOk r (λ a. MovesThere eq (ReachIs eq old) flow (next a) (ReachIs eq new))
-      → OnErr r ((w : World K V E) → ReachIs eq old w → ReachIs eq new w) → new.begun ≡ None → IsKept eq new
-  step_keeps (Ok a) next old new flow w reach may moves stays none = let m = moves.3 w reach may in kept_of new m.0 m.2 none
-  step_keeps (Err e) next old new flow w reach may moves stays none = kept_of new w (stays w reach) none
-
   -- the flow has none begun after the step either
   pub none_on : {A F : Type 0} (r : Result A F) (new : CacheLayers K V E S H same hash build hasher) (flow on : Flow K V E) → HasBegun None flow → new.begun ≡ None
       → OnOk r (IsOn (account_of (plain_table eq) new) on) → OnErr r (StandsStill flow on) → HasBegun None on
   none_on (Ok a) new flow on has none is stands = subst (λ (b : Option (PlainCall K V)). HasBegun (operation_in (plain_table {S = S} {H = H} eq) b) on) none is.begun
   none_on (Err e) new flow on has none is stands = still_none flow on stands has
+
+module _ {K V E S H : Type 0} {same : PartialEq.Ghosts K} {hash : Hash.Ghosts K} {build : BuildHasher.Ghosts S H} {hasher : Hasher.Ghosts H} (eq : K → K → Bool) (holds : K → V → Type 0) (ends : ℕ → Option K) where
+  -- the world, as the call of a number that was given out reaches it
+  pub reached_by : (layers : CacheLayers K V E S H same hash build hasher) (call : ℕ) (kept : IsKept eq holds ends layers) → call ≤ kept.world.desk.last
+      → ReachIs eq (record layers { call = call }) kept.world
+  reached_by layers call kept given =
+      let t = plain_table {K = K} {V = V} {S = S} {H = H} eq in
+      let peak = kept.stands.table.peak in
+      let never = none_so_often kept.world.stay call kept.decided in
+      let patient : times_of kept.world.stay call + most_on t layers.table ≤ most_undecided kept.world.table = omega (arith, peak, never) in
+      record {
+        ground = record {
+          world = record { table = kept.stands.table; desk = kept.stands.desk; handed = kept.stands.handed; stay = kept.stands.stay };
+          begun = subst (λ (b : Option (PlainCall K V)). BegunIs t layers.table call b kept.world.table kept.world.stay) (sym kept.none_begun)
+              (record { fits = tt; within = omega arith; patient = patient; listing = kept.unlisted call });
+          given = given;
+        };
+        sound = kept.sound;
+        log = kept.log;
+        decided = kept.decided;
+        unlisted = kept.unlisted;
+      }
+
+  -- the world, with a state of the desk that allows what is wanted
+  abbrev pub allowing : (layers : CacheLayers K V E S H same hash build hasher) (kept : IsKept eq holds ends layers) (P : DeskPart K V E → Type 0) → AllowsAlike eq layers.desk kept.world.desk P → IsKept eq holds ends layers
+  allowing layers kept P alike = record {
+    world = record kept.world { desk = with_past kept.world.desk alike.applied alike.notices };
+    stands = record { table = kept.stands.table; desk = alike.stands; handed = kept.stands.handed; stay = kept.stands.stay };
+    sound = alike.sound kept.sound;
+    log = kept.log;
+    decided = kept.decided;
+    none_begun = kept.none_begun;
+    unlisted = kept.unlisted;
+    stored = kept.stored;
+    ended = kept.ended;
+  }
+
+  -- such a world where nothing is begun is kept
+  pub kept_of : (layers : CacheLayers K V E S H same hash build hasher) (w : World K V E) → ReachIs eq layers w → layers.begun ≡ None
+      → TableFair holds eq w.table.stored → EndsMeet holds ends w.desk.settled → IsKept eq holds ends layers
+  kept_of layers w reach none stored ended =
+      record { world = w; stands = reach.ground.world; sound = reach.sound; log = reach.log; decided = reach.decided; none_begun = none; unlisted = reach.unlisted; stored = stored; ended = ended }
+
+  pub fits_on : (layers : CacheLayers K V E S H same hash build hasher) (call : ℕ) (flow : Flow K V E) (kept : IsKept eq holds ends layers) → call ≤ kept.world.desk.last → HasBegun None flow
+      → May kept.world (access_at flow) → MayReach eq (record layers { call = call }) (wish_of flow)
+  fits_on layers call flow kept given has may = (kept.world, reached_by layers call kept given, may_want S H eq layers.begun flow kept.world kept.none_begun has may)
+
+  -- the step of a flow, in a world that the ground stands for
+  pub step_ends : (such : Taken V E → Type 0) (old new : CacheLayers K V E S H same hash build hasher) (flow : Flow K V E) (next : Next K V E) (w : World K V E) → TableFair holds eq w.table.stored
+      → ReadsSo holds w.desk flow.call (call_of flow) → ReachIs eq old w → ReadsItsKind w.desk flow.call (call_of flow) → May w (access_at flow)
+      → ((given : Got K V E) (after : World K V E) → Gets eq flow.call w (access_at flow) given after → TookBy (access_at flow) given such)
+      → MovesThere eq (ReachIs eq old) flow next (ReachIs eq new) → EndedWith (facts eq holds) such flow.call (call_of flow) next
+  step_ends such old new flow next w stored reads reach kind may took moves =
+      let m = moves.3 w reach may in record {
+        call = call_of flow;
+        came = ([], refl);
+        given = moves.0;
+        last = record {
+          gave = record { world = w; after = m.0; sound = reach.sound; ends = kind; may = may; gets = m.1 };
+          stored = stored;
+          reads = reads;
+        };
+        took = took moves.0 m.0 m.1;
+        follows = moves.2;
+      }
+
+  pub step_keeps : {A F : Type 0} (r : Result A F) (next : A → Next K V E) (old new : CacheLayers K V E S H same hash build hasher) (flow : Flow K V E) (w : World K V E) → TableFair holds eq w.table.stored
+      → EndsMeet holds ends w.desk.settled → ((pair : K × V) → pair_by (access_at flow) ≡ Some pair → holds pair.0 pair.1)
+      → EndIsNoted holds ends w.desk (access_at flow) → ReachIs eq old w → May w (access_at flow)
+      → IfOk r (λ a. MovesThere eq (ReachIs eq old) flow (next a) (ReachIs eq new))
+      → OnErr r ((w : World K V E) → ReachIs eq old w → ReachIs eq new w) → new.begun ≡ None → IsKept eq holds ends new
+  step_keeps (Ok a) next old new flow w stored ended so noted reach may moves stays none =
+      let m = moves.3 w reach may in
+      kept_of new m.0 m.2 none (table_meets eq holds flow.call w (access_at flow) moves.0 m.0 m.1 so stored)
+      (ends_meet eq holds ends flow.call w (access_at flow) moves.0 m.0 m.1 noted ended)
+  step_keeps (Err e) next old new flow w stored ended so noted reach may moves stays none = kept_of new w (stays w reach) none stored ended
 
 -- what a visit needs of the desk, its world has
 pub may_of : {K V E : Type 0} (w : World K V E) (access : Access K V E) → MayMake w.desk access → May w access

@@ -1,5 +1,5 @@
 -- What lies under the lock of a cache.
-use Rattle.std.specs.Prelude.{◌≡◌, ◌<◌, ℕ, Bool, true, false, Some, None}
+use Rattle.std.specs.Prelude.{◌≡◌, ◌<◌, ℕ, Bool, true, false, Some, None, Option}
 use Rattle.std.specs.declared.cmp.PartialEq as PartialEq
 use Rattle.std.specs.declared.hash.Hash as Hash
 use Rattle.std.specs.declared.hash.Hasher as Hasher
@@ -21,6 +21,8 @@ use Rattle.moka_hist.specs.declared.record_tests.Tests as Tests
 use Rattle.moka_kept.specs.declared.brought.Brought.{Brought}
 use Rattle.moka_kept.specs.declared.brought.Brought.TheVariants as brought
 use Rattle.moka_kept.specs.declared.in_hand.InHand.{InHand}
+use Rattle.moka_laws.specs.Fair.{TableFair}
+use Rattle.moka_kept.specs.Facts.{EndsMeet}
 
 -- each replace test answers what is in hand, and no predicate holds
 abbrev pub in_hand : {K V : Type 0} → Tests.Ghosts InHand K V
@@ -46,10 +48,12 @@ CacheLayers K V E S H same hash build hasher =
     Layers K V E (PlainTable K V S H) (PlainCall K V) InHand S H same hash build hasher
 
 -- Some sound world is that of the layers. Its log has room for a write once it is empty, and no
--- operation of its table is begun or stayed undecided, and no list of keys.
+-- operation of its table is begun or stayed undecided, and no list of keys. Each pair that is stored
+-- meets the fact; so does each value by which an owner ended, for the key that is noted of that.
 pub record IsKept {K V E S H : Type 0} {same : PartialEq.Ghosts K} {hash : Hash.Ghosts K}
     {build : BuildHasher.Ghosts S H} {hasher : Hasher.Ghosts H}
-    (eq : K → K → Bool) (layers : CacheLayers K V E S H same hash build hasher) : Type 0 where
+    (eq : K → K → Bool) (holds : K → V → Type 0) (ends : ℕ → Option K)
+    (layers : CacheLayers K V E S H same hash build hasher) : Type 0 where
   pub world : World K V E
   pub stands : WorldIs eq (plain_table eq) in_hand layers world
   pub sound : SoundDesk eq world.desk
@@ -57,25 +61,28 @@ pub record IsKept {K V E S H : Type 0} {same : PartialEq.Ghosts K} {hash : Hash.
   pub decided : world.stay.times ≡ 0
   pub none_begun : layers.begun ≡ None
   pub unlisted : (n : ℕ) → world.table.listings n ≡ None
+  pub stored : TableFair holds eq world.table.stored
+  pub ended : EndsMeet holds ends world.desk.settled
 
 -- It is so, and the answer is there to be taken by the call of this number.
 pub record IsToldTo {K V E S H : Type 0} {same : PartialEq.Ghosts K} {hash : Hash.Ghosts K}
     {build : BuildHasher.Ghosts S H} {hasher : Hasher.Ghosts H}
-    (eq : K → K → Bool) (layers : CacheLayers K V E S H same hash build hasher) (n : ℕ)
-    (told : Told V E) : Type 0
+    (eq : K → K → Bool) (holds : K → V → Type 0) (ends : ℕ → Option K)
+    (layers : CacheLayers K V E S H same hash build hasher) (n : ℕ) (told : Told V E) : Type 0
   where
-    pub kept : IsKept eq layers
+    pub kept : IsKept eq holds ends layers
     pub there : kept.world.desk.told n ≡ Some told
 
 -- What was brought is there for the next step of the call of this number, which takes an answer to
 -- its own ask or doesn't.
 abbrev pub IsBrought : {K V E S H : Type 0} {same : PartialEq.Ghosts K} {hash : Hash.Ghosts K}
     {build : BuildHasher.Ghosts S H} {hasher : Hasher.Ghosts H}
-    → (K → K → Bool) → CacheLayers K V E S H same hash build hasher → ℕ → Brought V E → Bool →
-    Type 0
-IsBrought eq layers n brought.Nothing takes = takes ≡ false
-IsBrought eq layers n (brought.Told told) takes = (takes ≡ true) × IsToldTo eq layers n told
-IsBrought eq layers n (brought.Tested replaced) takes =
+    → (K → K → Bool) → (K → V → Type 0) → (ℕ → Option K)
+    → CacheLayers K V E S H same hash build hasher → ℕ → Brought V E → Bool → Type 0
+IsBrought eq holds ends layers n brought.Nothing takes = takes ≡ false
+IsBrought eq holds ends layers n (brought.Told told) takes =
+    (takes ≡ true) × IsToldTo eq holds ends layers n told
+IsBrought eq holds ends layers n (brought.Tested replaced) takes =
     (takes ≡ false) × (layers.tests.replaced ≡ replaced)
 
 -- What the ground of a poll stands for: a world as above, as the call of this number reaches it.

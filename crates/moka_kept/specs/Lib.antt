@@ -1,3 +1,5 @@
+pub mod Facts
+pub mod Meets
 pub mod Kept
 pub mod Taking
 pub mod Paths
@@ -6,3 +8,4 @@ pub mod Rests
 pub mod Stops
 pub mod Counts
 pub mod Ends
+pub mod Entering

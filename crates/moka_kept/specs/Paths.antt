@@ -1,5 +1,7 @@
 -- The accesses that a poll makes.
 use Rattle.std.specs.Prelude.{◌≡◌, ℕ, Bool, List, [], ◌∷◌, Some}
+use Rattle.moka_laws.specs.Fair.{TableFair}
+use Rattle.moka_kept.specs.Facts.{Facts, ReadsSo}
 use Rattle.moka_hist.specs.Next.{Next}
 use Rattle.moka_hist.specs.SoundDesk.{SoundDesk}
 use Rattle.moka_hist.specs.State.{Call, World}
@@ -21,30 +23,37 @@ module _ {K V E : Type 0} where
     pub may : May world (access_of n c)
     pub gets : Gets eq n world (access_of n c) given after
 
+  -- The world that gave it meets the fact: each pair that its table stores, and what the call reads of
+  -- an owner's end by that access, if it reads one.
+  pub record GivenSo (f : Facts K V) (n : ℕ) (c : Call K V E) (given : Got K V E) : Type 0 where
+    pub gave : IsGiven f.eq n c given
+    pub stored : TableFair f.holds f.eq gave.world.table.stored
+    pub reads : ReadsSo f.holds gave.world.desk n c
+
   -- The accesses with what they gave lead the call of this number from c to d: each is the one at
-  -- which the call stood, and was given so; what it gave left the call as the next one finds it,
-  -- going, waiting or asking; and each answer to its own ask, or of its replace test on a value,
-  -- that the call took by them is such.
-  abbrev pub LeadsWith : (K → K → Bool) → (Taken V E → Type 0) → ℕ → Call K V E
+  -- which the call stood, and was given so, by a world that meets the fact; what it gave left the call
+  -- as the next one finds it, going, waiting or asking; and each answer to its own ask, or of its
+  -- replace test on a value, that the call took by them is such.
+  abbrev pub LeadsWith : Facts K V → (Taken V E → Type 0) → ℕ → Call K V E
       → List (Access K V E × Got K V E) → Call K V E → Type 0
-  LeadsWith eq such n c [] d = d ≡ c
-  LeadsWith eq such n c (made ∷ more) d =
-      (mid : Call K V E) × (made.0 ≡ access_of n c) × IsGiven eq n c made.1
+  LeadsWith f such n c [] d = d ≡ c
+  LeadsWith f such n c (made ∷ more) d =
+      (mid : Call K V E) × (made.0 ≡ access_of n c) × GivenSo f n c made.1
       × ((next_of n c made.1).left ≡ Some mid) × TookBy made.0 made.1 such
-      × LeadsWith eq such n mid more d
+      × LeadsWith f such n mid more d
 
   -- a poll that answers nothing yet led the call so, by some accesses or none
-  abbrev pub CameWith : (K → K → Bool) → (Taken V E → Type 0) → ℕ → Call K V E → Call K V E → Type 0
-  CameWith eq such n c d =
-      (path : List (Access K V E × Got K V E)) × LeadsWith eq such n c path d
+  abbrev pub CameWith : Facts K V → (Taken V E → Type 0) → ℕ → Call K V E → Call K V E → Type 0
+  CameWith f such n c d =
+      (path : List (Access K V E × Got K V E)) × LeadsWith f such n c path d
 
   -- it led the call up to an access after which this follows
-  pub record EndedWith (eq : K → K → Bool) (such : Taken V E → Type 0) (n : ℕ) (c : Call K V E)
+  pub record EndedWith (f : Facts K V) (such : Taken V E → Type 0) (n : ℕ) (c : Call K V E)
       (next : Next K V E) : Type 0 where
     pub call : Call K V E
-    pub came : CameWith eq such n c call
+    pub came : CameWith f such n c call
     pub given : Got K V E
-    pub last : IsGiven eq n call given
+    pub last : GivenSo f n call given
     pub took : TookBy (access_of n call) given such
     pub follows : next ≡ next_of n call given
 

@@ -11,6 +11,7 @@ use Rattle.moka_hist.specs.declared.visits.Found.TheVariants as found
 use Rattle.moka_hist.specs.declared.visits.LockTaken.TheVariants as taken
 use Rattle.moka_init.specs.FlowPlan.{IsOver, call_of, tested_in}
 use Rattle.moka_init.specs.declared.flow.Flow.{Flow}
+use Rattle.moka_kept.specs.Facts.{Facts}
 use Rattle.moka_kept.specs.Paths.{CameWith, EndedWith, IsGiven, LeftWith}
 use Rattle.moka_kept.specs.Rests.{Rests}
 use Rattle.moka_kept.specs.Taking.{Taken}
@@ -70,16 +71,16 @@ module _ {K V E : Type 0} where
 
   -- The call of the old flow came by accesses to where the new one stands, and rests there. Each
   -- answer of who is asked that it took is such.
-  pub record CameTo (eq : K → K → Bool) (such : Taken V E → Type 0) (old new : Flow K V E)
+  pub record CameTo (f : Facts K V) (such : Taken V E → Type 0) (old new : Flow K V E)
       : Type 0 where
     pub number : new.call ≡ old.call
-    pub came : CameWith eq such old.call (call_of old) (call_of new)
+    pub came : CameWith f such old.call (call_of old) (call_of new)
     pub rests : Rests new
 
   -- the answer follows from the last of the accesses that the call made since
-  abbrev pub AnswersFrom : (K → K → Bool) → (Taken V E → Type 0) → Flow K V E → Answer K V E
+  abbrev pub AnswersFrom : Facts K V → (Taken V E → Type 0) → Flow K V E → Answer K V E
       → Type 0
-  AnswersFrom eq such old answer = EndedWith eq such old.call (call_of old) (answers answer)
+  AnswersFrom f such old answer = EndedWith f such old.call (call_of old) (answers answer)
 
   -- the last access of the flow's call left it waiting
   abbrev pub Waits : (K → K → Bool) → Flow K V E → Type 0
@@ -98,14 +99,14 @@ module _ {K V E : Type 0} where
 
   -- the steps left the call so: its answer follows from the last of its accesses, and nothing is
   -- left of it; or it came to where its flow stands
-  abbrev pub StopIs : (K → K → Bool) → (Taken V E → Type 0) → Flow K V E → Stop K V E → Flow K V E
+  abbrev pub StopIs : Facts K V → (Taken V E → Type 0) → Flow K V E → Stop K V E → Flow K V E
       → Type 0
-  StopIs eq such old (stop.Answers answer) new = AnswersFrom eq such old answer × IsOver new
-  StopIs eq such old stop.Going new = CameTo eq such old new × GoesOnWith eq new
-  StopIs eq such old (stop.Waits task kept) new =
-      CameTo eq such old new × Waits eq new × IfSome kept (FindsKept eq new)
-  StopIs eq such old (stop.Asks own) new = CameTo eq such old new × LeftAsking eq new (asked own)
-  StopIs eq such old (stop.Due due) new =
-      CameTo eq such old new × LeftAsking eq new (ask.Listener due.key due.value due.cause)
+  StopIs f such old (stop.Answers answer) new = AnswersFrom f such old answer × IsOver new
+  StopIs f such old stop.Going new = CameTo f such old new × GoesOnWith f.eq new
+  StopIs f such old (stop.Waits task kept) new =
+      CameTo f such old new × Waits f.eq new × IfSome kept (FindsKept f.eq new)
+  StopIs f such old (stop.Asks own) new = CameTo f such old new × LeftAsking f.eq new (asked own)
+  StopIs f such old (stop.Due due) new =
+      CameTo f such old new × LeftAsking f.eq new (ask.Listener due.key due.value due.cause)
       × (due.notice ≡ new.call)
-  StopIs eq such old stop.Memory new = CameTo eq such old new
+  StopIs f such old stop.Memory new = CameTo f such old new

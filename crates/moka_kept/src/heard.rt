@@ -1,5 +1,6 @@
 //! What a listener answered, as the next hold of the lock tells it.
-ghost use Rattle.std.specs.Prelude.{◌≡◌, false, IfNone, OnSome};
+ghost use Rattle.std.specs.Prelude.{◌≡◌, false, IfNone, OnSome, nat_eq};
+ghost use Rattle.std.specs.HashMap.{get};
 ghost use Rattle.moka_hist.specs.State.{DeskPart};
 ghost use Rattle.moka_hist.specs.Visits.{is_running};
 ghost use Rattle.moka_hist.specs.Telling.{told};
@@ -9,6 +10,7 @@ ghost use Rattle.moka_kept.specs.Taking.{end_told};
 
 use crate::ground::Reach;
 use crate::parked::HandedOut;
+use moka_facts::Fact;
 use moka_values::Exact;
 use std::hash::{BuildHasher, Hash};
 
@@ -39,12 +41,15 @@ impl Heard {
 
     /// Tells the desk that the notice has ended so, and gives those that it hands out. Answers None
     /// where that doesn't run; nothing has changed then.
-    pub(crate) fn tell<K: Eq + Hash + Exact, V: Exact, E: Exact, S: BuildHasher + Drop>(
-        self,
-        reach: &mut Reach<K, V, E, S>,
-    ) -> Option<HandedOut>
-        requires { IsKept K.eq reach.old.layers }
-        ensures kept { IsKept K.eq reach.new.layers }
+    pub(crate) fn tell<
+        K: Eq + Hash + Exact,
+        V: Exact,
+        E: Exact,
+        S: BuildHasher + Drop,
+        P: Fact<K, V>,
+    >(self, reach: &mut Reach<K, V, E, S, P>) -> Option<HandedOut>
+        requires { IsKept K.eq P.holds (get nat_eq reach.old.ends) reach.old.layers }
+        ensures kept { IsKept K.eq P.holds (get nat_eq reach.new.ends) reach.new.layers }
         ensures told { OnSome result ((w : DeskPart K V E)
             → StandsFor K.eq reach.old.layers.desk w
             → StandsFor K.eq reach.new.layers.desk (told w self.notice (end_told self.end))) }

@@ -1,5 +1,6 @@
 //! What lies under the lock of a cache.
-ghost use Rattle.std.specs.Prelude.{◌≡◌, ◌<◌, ℕ, Bool, Option, None, IfSome};
+ghost use Rattle.std.specs.Prelude.{◌≡◌, ◌<◌, ℕ, Bool, Option, None, IfSome, nat_eq};
+ghost use Rattle.std.specs.HashMap.{get};
 ghost use Rattle.moka_kept.specs.Kept.{IsKept};
 ghost use Rattle.moka_kept.specs.Stops.{FindsKept, IsWaiting, kept_in, stop_asking};
 
@@ -14,6 +15,7 @@ use crate::parked::{HandedOut, Parked};
 use crate::reaching::{goes_on, is_unasked};
 use crate::stop::{OwnAsk, Stop};
 use futures::task::Context;
+use moka_facts::Fact;
 use moka_hist::{Answer, Ask, Rules, Turn};
 use moka_init::Flow;
 use moka_values::Exact;
@@ -28,23 +30,32 @@ const MOST_STEPS: usize = 32;
 /// Table and desk, and beside them the wakers of the tasks whose calls wait. Nothing is seen of it
 /// but that they stand for a sound world.
 #[derive(Drop)]
-pub(crate) struct Kept<K: Eq + Hash, V, E, S: BuildHasher> {
-    pub(crate) reach: Reach<K, V, E, S>,
+pub(crate) struct Kept<K: Eq + Hash, V, E, S: BuildHasher, P: Fact<K, V>> {
+    pub(crate) reach: Reach<K, V, E, S, P>,
     parked: Parked,
 }
 
-impl<K: Eq + Hash, V, E, S: BuildHasher> Model for Kept<K, V, E, S> {
+impl<K: Eq + Hash, V, E, S: BuildHasher, P: Fact<K, V>> Model for Kept<K, V, E, S, P> {
     ghost Value = { Unit {0} };
 
     ghost view = { λ k. tt };
 
-    ghost invariant = { λ k. IsKept K.eq k.reach.layers };
+    ghost invariant = { λ k. IsKept K.eq P.holds (get nat_eq k.reach.ends) k.reach.layers };
 }
 
-impl<K: Eq + Hash + Exact, V: Exact, E: Exact, S: BuildHasher + Drop> Kept<K, V, E, S> {
+impl<K: Eq + Hash + Exact, V: Exact, E: Exact, S: BuildHasher + Drop, P: Fact<K, V>> Kept<
+    K,
+    V,
+    E,
+    S,
+    P,
+> {
     ghost use Rattle.futures.specs.Task.{IsArmed, Keeps};
+    ghost use Rattle.moka_hist.specs.Plan.{held_by};
     ghost use Rattle.moka_kept.specs.Rests.{Rests};
     ghost use Rattle.moka_kept.specs.Parked.{IsOwn};
+    ghost use Rattle.moka_kept.specs.Facts.{facts};
+    ghost use Rattle.moka_kept.specs.Meets.{FlowMeets, StopSo};
     ghost use Rattle.moka_kept.specs.Stops.{StopIs, stop_after, stop_of, task_in};
     ghost use Rattle.moka_kept.specs.declared.parked.ParkedTask.{ParkedTask};
     ghost use Rattle.moka_init.specs.FlowPlan.{call_of, tested_in};
@@ -67,12 +78,10 @@ impl<K: Eq + Hash + Exact, V: Exact, E: Exact, S: BuildHasher + Drop> Kept<K, V,
         })
     }
 
-    /// Moves the clock on to the moment, where that is later, and gives the next call number out.
-    /// Answers None where the greatest one was given out.
-    pub(crate) fn enter(&mut self, moment: u64) -> Option<Number>
+    /// Gives the next call number out. Answers None where the greatest one was given out.
+    pub(crate) fn enter(&mut self) -> Option<Number>
         ensures { IfSome result (λ number. 0 < number.call) }
     {
-        self.reach.move_clock(moment);
         self.reach.enter()
     }
 
@@ -100,23 +109,29 @@ impl<K: Eq + Hash + Exact, V: Exact, E: Exact, S: BuildHasher + Drop> Kept<K, V,
     /// isn't there. The first goes by what was brought: it takes the answer to its own ask, or
     /// judges by that of its replace test. The wakers of all that the visits hand out come to those
     /// in `woken`; where it waits its task is parked. Where no call carries a record on, it is
-    /// forgotten when those were seen that have left.
+    /// forgotten when those were seen that have left. The key is the one that the state of the flow's
+    /// call keeps. What it stores is to meet the fact; what a compute or the listener is told does.
     pub(crate) fn go(
         &mut self,
         flow: &mut Flow<K, V, E>,
+        key: &Option<K>,
         brought: Brought<V, E>,
         cx: &mut Context<'_>,
         woken: &mut ToWake,
     ) -> Stop<K, V, E>
         requires rests { Rests flow.old }
-        ensures stops { StopIs K.eq (Brings (tested_in (call_of flow.old).plan) brought)
+        requires so { FlowMeets (facts K.eq P.holds) key.now
+            (Brings (tested_in (call_of flow.old).plan) brought) flow.old }
+        ensures stops { StopIs (facts K.eq P.holds)
+            (Brings (tested_in (call_of flow.old).plan) brought)
             flow.old result flow.new }
+        ensures so { StopSo (facts K.eq P.holds) result }
         ensures armed { IsWaiting result → IsArmed cx.new }
         ensures own { IsWaiting result → IsOwn (task_in result) flow.new.call cx.new }
         ensures kept { Keeps cx.old cx.new }
     {
         let carried = flow.carries();
-        let stop = self.make_steps(flow, brought, cx, woken);
+        let stop = self.make_steps(flow, key, brought, cx, woken);
         self.reach.settle(carried, flow.carries());
         stop
     }
@@ -125,13 +140,18 @@ impl<K: Eq + Hash + Exact, V: Exact, E: Exact, S: BuildHasher + Drop> Kept<K, V,
     fn make_steps(
         &mut self,
         flow: &mut Flow<K, V, E>,
+        key: &Option<K>,
         brought: Brought<V, E>,
         cx: &mut Context<'_>,
         woken: &mut ToWake,
     ) -> Stop<K, V, E>
         requires rests { Rests flow.old }
-        ensures stops { StopIs K.eq (Brings (tested_in (call_of flow.old).plan) brought)
+        requires so { FlowMeets (facts K.eq P.holds) key.now
+            (Brings (tested_in (call_of flow.old).plan) brought) flow.old }
+        ensures stops { StopIs (facts K.eq P.holds)
+            (Brings (tested_in (call_of flow.old).plan) brought)
             flow.old result flow.new }
+        ensures so { StopSo (facts K.eq P.holds) result }
         ensures armed { IsWaiting result → IsArmed cx.new }
         ensures own { IsWaiting result → IsOwn (task_in result) flow.new.call cx.new }
         ensures kept { Keeps cx.old cx.new }
@@ -141,7 +161,7 @@ impl<K: Eq + Hash + Exact, V: Exact, E: Exact, S: BuildHasher + Drop> Kept<K, V,
             if is_unasked(flow, &next) {
                 return Stop::Going;
             }
-            let made = self.one_step(flow, mem::replace(&mut next, Brought::Nothing), woken);
+            let made = self.one_step(flow, key, mem::replace(&mut next, Brought::Nothing), woken);
             if !goes_on(&made) {
                 return self.stop_after(made, flow, cx, woken);
             }
@@ -154,21 +174,26 @@ impl<K: Eq + Hash + Exact, V: Exact, E: Exact, S: BuildHasher + Drop> Kept<K, V,
     fn one_step(
         &mut self,
         flow: &mut Flow<K, V, E>,
+        key: &Option<K>,
         brought: Brought<V, E>,
         woken: &mut ToWake,
     ) -> Result<Turn<K, V, E>, AllocError>
         requires rests { Rests flow.old }
         requires untested { brought ≡ Brought.Nothing → tested_in (call_of flow.old).plan ≡ None }
+        requires so { FlowMeets (facts K.eq P.holds) key.now
+            (Brings (tested_in (call_of flow.old).plan) brought) flow.old }
         ensures stops { (task : Option ParkedTask) (kept : Option ℕ)
             → IfSome kept (FindsKept K.eq flow.new)
-            → StopIs K.eq (Brings (tested_in (call_of flow.old).plan) brought)
+            → StopIs (facts K.eq P.holds) (Brings (tested_in (call_of flow.old).plan) brought)
             flow.old (stop_after task kept flow.new.call result) flow.new }
+        ensures so { (task : Option ParkedTask) (kept : Option ℕ)
+            → StopSo (facts K.eq P.holds) (stop_after task kept flow.new.call result) }
     {
         match self
             .reach
             .bring(flow.number(), brought, &mut self.parked, woken)
         {
-            Some(takes) => self.reach.step(flow, takes, &mut self.parked, woken),
+            Some(takes) => self.reach.step(flow, key, takes, &mut self.parked, woken),
             None => Err(AllocError),
         }
     }
@@ -258,7 +283,8 @@ impl<K: Eq + Hash + Exact, V: Exact, E: Exact, S: BuildHasher + Drop> Kept<K, V,
     /// Lets the call of the flow leave, with the write that it holds, where the desk allows it. The
     /// wakers of all that it hands out come to those in `woken`. It takes no memory.
     pub(crate) fn leave(&mut self, flow: &Flow<K, V, E>, woken: &mut ToWake) -> Left
-        ensures { result.call ≡ flow.now.call }
+        ensures call { result.call ≡ flow.now.call }
+        ensures held { result.held ≡ held_by (call_of flow.now).plan }
     {
         self.parked.hand_one(flow.number(), woken);
         let (left, handed) = self.reach.leave(flow);

@@ -5,6 +5,9 @@
 mod brought;
 mod carrying;
 mod due;
+mod ends;
+mod entered;
+mod entering;
 mod ground;
 mod guarded;
 mod heard;
@@ -22,11 +25,11 @@ mod stop;
 
 pub use brought::Brought;
 pub use due::DueNotice;
+pub use entered::Entered;
 pub use guarded::Guarded;
 pub use heard::{Heard, ListenerEnd};
 pub use leaving::Left;
 pub use listener::{Listener, NoListener};
 pub use live::{Live, is_asking};
-pub use number::Number;
 pub use parked::ParkedTask;
 pub use stop::{OwnAsk, Stop};

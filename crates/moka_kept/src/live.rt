@@ -5,6 +5,8 @@ ghost use Rattle.futures.specs.Task.{IsArmed, Keeps};
 ghost use Rattle.moka_hist.specs.Plan.{hearing};
 ghost use Rattle.moka_init.specs.FlowPlan.{IsOver, call_of, tested_in};
 ghost use Rattle.moka_init.specs.Grounds.{access_at};
+ghost use Rattle.moka_kept.specs.Facts.{facts};
+ghost use Rattle.moka_kept.specs.Meets.{FlowMeets, StopSo};
 ghost use Rattle.moka_kept.specs.Parked.{IsOwn};
 ghost use Rattle.moka_kept.specs.Rests.{Rests};
 ghost use Rattle.moka_kept.specs.Stops.{IsWaiting, StopIs, task_in};
@@ -16,6 +18,7 @@ use crate::kept::Kept;
 use crate::leaving::Left;
 use crate::stop::Stop;
 use futures::task::Context;
+use moka_facts::Fact;
 use moka_init::Flow;
 use moka_values::Exact;
 use std::hash::{BuildHasher, Hash};
@@ -77,21 +80,26 @@ impl<K, V, E> Live<K, V, E> {
 
 impl<K: Eq + Hash + Exact, V: Exact, E: Exact> Live<K, V, E> {
     /// Makes steps of the flow with what lies under the lock, as `Kept::go` does.
-    pub(crate) fn go<S: BuildHasher + Drop>(
+    pub(crate) fn go<S: BuildHasher + Drop, P: Fact<K, V>>(
         &mut self,
-        kept: &mut Kept<K, V, E, S>,
+        kept: &mut Kept<K, V, E, S, P>,
+        key: &Option<K>,
         brought: Brought<V, E>,
         cx: &mut Context<'_>,
         woken: &mut ToWake,
     ) -> Stop<K, V, E>
         requires rests { Rests self.old }
-        ensures stops { StopIs K.eq (Brings (tested_in (call_of self.old).plan) brought)
+        requires so { FlowMeets (facts K.eq P.holds) key.now
+            (Brings (tested_in (call_of self.old).plan) brought) self.old }
+        ensures stops { StopIs (facts K.eq P.holds)
+            (Brings (tested_in (call_of self.old).plan) brought)
             self.old result self.new }
+        ensures so { StopSo (facts K.eq P.holds) result }
         ensures armed { IsWaiting result → IsArmed cx.new }
         ensures own { IsWaiting result → IsOwn (task_in result) self.new.call cx.new }
         ensures kept { Keeps cx.old cx.new }
     {
-        kept.go(&mut self.flow, brought, cx, woken)
+        kept.go(&mut self.flow, key, brought, cx, woken)
     }
 }
 

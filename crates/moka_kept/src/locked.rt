@@ -1,23 +1,29 @@
 //! The lock of a cache. What takes it can neither make what those that are to be woken lie in, nor
 //! let it go.
-ghost use Rattle.std.specs.Prelude.{◌≡◌, ◌<◌, IfSome};
+ghost use Rattle.std.specs.Prelude.{◌≡◌, ℕ, IfOk, true};
 ghost use Rattle.futures.specs.Task.{IsArmed, Keeps};
+ghost use Rattle.moka_hist.specs.Plan.{held_by};
+ghost use Rattle.moka_hist.specs.Run.{fresh_call};
 ghost use Rattle.moka_init.specs.FlowPlan.{call_of, tested_in};
+ghost use Rattle.moka_kept.specs.Entering.{EnteredIs, IfGoes};
+ghost use Rattle.moka_kept.specs.Facts.{facts};
+ghost use Rattle.moka_kept.specs.Meets.{CallMeets, FlowMeets, StopSo};
 ghost use Rattle.moka_kept.specs.Parked.{IsOwn};
 ghost use Rattle.moka_kept.specs.Rests.{Rests};
 ghost use Rattle.moka_kept.specs.Stops.{IsWaiting, StopIs, task_in};
-ghost use Rattle.moka_kept.specs.Taking.{Brings};
+ghost use Rattle.moka_kept.specs.Taking.{Brings, NoAnswer};
 
 use crate::brought::Brought;
+use crate::entered::Entered;
 use crate::guarded::ToWake;
 use crate::heard::Heard;
 use crate::kept::Kept;
 use crate::leaving::Left;
 use crate::live::Live;
-use crate::number::Number;
 use crate::stop::Stop;
 use futures::task::Context;
-use moka_hist::Rules;
+use moka_facts::Fact;
+use moka_hist::{Rules, Start};
 use moka_init::Flow;
 use moka_values::Exact;
 use std::alloc::{AllocError, Global};
@@ -27,11 +33,17 @@ use std::sync::{Mutex, Wait};
 /// What lies under the lock, with that lock. Each call takes it once, and has freed it when it
 /// returns.
 #[derive(Drop)]
-pub(crate) struct Locked<K: Eq + Hash, V, E, S: BuildHasher> {
-    kept: Mutex<Kept<K, V, E, S>>,
+pub(crate) struct Locked<K: Eq + Hash, V, E, S: BuildHasher, P: Fact<K, V>> {
+    kept: Mutex<Kept<K, V, E, S, P>>,
 }
 
-impl<K: Eq + Hash + Exact, V: Exact, E: Exact, S: BuildHasher + Drop> Locked<K, V, E, S> {
+impl<K: Eq + Hash + Exact, V: Exact, E: Exact, S: BuildHasher + Drop, P: Fact<K, V>> Locked<
+    K,
+    V,
+    E,
+    S,
+    P,
+> {
     /// Makes what an empty cache keeps, as `Kept::starting_after` does.
     pub(crate) fn starting_after(
         alloc: Global,
@@ -46,13 +58,32 @@ impl<K: Eq + Hash + Exact, V: Exact, E: Exact, S: BuildHasher + Drop> Locked<K, 
         Ok(Locked { kept })
     }
 
-    /// Gives the next call number out, as `Kept::enter` does.
-    pub(crate) fn enter<R: Wait>(&self, rt: &R, moment: u64) -> Option<Number>
-        ensures { IfSome result (λ number. 0 < number.call) }
+    /// Begins a call and makes its first steps in one hold, as `Kept::begin` does, once the clock was
+    /// moved on. The wakers of all that are handed out come to those in `woken`.
+    pub(crate) fn begin<R: Wait>(
+        &self,
+        rt: &R,
+        start: Start<K, V>,
+        rules: Rules,
+        key: &Option<K>,
+        cx: &mut Context<'_>,
+        moment: u64,
+        woken: &mut ToWake,
+    ) -> Entered<K, V, E>
+        requires so { (n : ℕ) → CallMeets {E = E} (facts K.eq P.holds) key.now NoAnswer n
+            (fresh_call 1 rules start) }
+        ensures begins { EnteredIs (facts K.eq P.holds) NoAnswer (fresh_call 1 rules start)
+            result }
+        ensures so { IfGoes result (λ flow stop. StopSo (facts K.eq P.holds) stop) }
+        ensures armed { IfGoes result (λ flow stop. IsWaiting stop → IsArmed cx.new) }
+        ensures own { IfGoes result (λ flow stop. IsWaiting stop
+            → IsOwn (task_in stop) flow.call cx.new) }
+        ensures kept { Keeps cx.old cx.new }
     {
         let mut guard = self.kept.lock(rt);
         let kept = &mut *guard;
-        kept.enter(moment)
+        kept.move_clock(moment);
+        kept.begin(start, rules, key, cx, woken)
     }
 
     /// Makes steps of the flow in one hold, as `Kept::go` does, once the clock was moved on and the
@@ -61,6 +92,7 @@ impl<K: Eq + Hash + Exact, V: Exact, E: Exact, S: BuildHasher + Drop> Locked<K, 
         &self,
         rt: &R,
         flow: &mut Live<K, V, E>,
+        key: &Option<K>,
         brought: Brought<V, E>,
         heard: Option<Heard>,
         cx: &mut Context<'_>,
@@ -68,8 +100,12 @@ impl<K: Eq + Hash + Exact, V: Exact, E: Exact, S: BuildHasher + Drop> Locked<K, 
         woken: &mut ToWake,
     ) -> Stop<K, V, E>
         requires rests { Rests flow.old }
-        ensures stops { StopIs K.eq (Brings (tested_in (call_of flow.old).plan) brought)
+        requires so { FlowMeets (facts K.eq P.holds) key.now
+            (Brings (tested_in (call_of flow.old).plan) brought) flow.old }
+        ensures stops { StopIs (facts K.eq P.holds)
+            (Brings (tested_in (call_of flow.old).plan) brought)
             flow.old result flow.new }
+        ensures so { StopSo (facts K.eq P.holds) result }
         ensures armed { IsWaiting result → IsArmed cx.new }
         ensures own { IsWaiting result → IsOwn (task_in result) flow.new.call cx.new }
         ensures kept { Keeps cx.old cx.new }
@@ -78,12 +114,13 @@ impl<K: Eq + Hash + Exact, V: Exact, E: Exact, S: BuildHasher + Drop> Locked<K, 
         let kept = &mut *guard;
         kept.move_clock(moment);
         kept.hear(heard, woken);
-        flow.go(kept, brought, cx, woken)
+        flow.go(kept, key, brought, cx, woken)
     }
 
     /// Lets the call of the flow leave. The wakers of all that it hands out come to those in `woken`.
     pub(crate) fn leave<R: Wait>(&self, rt: &R, flow: &Flow<K, V, E>, woken: &mut ToWake) -> Left
-        ensures { result.call ≡ flow.now.call }
+        ensures call { result.call ≡ flow.now.call }
+        ensures held { result.held ≡ held_by (call_of flow.now).plan }
     {
         let mut guard = self.kept.lock(rt);
         let kept = &mut *guard;
@@ -96,7 +133,9 @@ impl<K: Eq + Hash + Exact, V: Exact, E: Exact, S: BuildHasher + Drop> Locked<K, 
         rt: &R,
         key: &K,
         moment: u64,
-    ) -> Result<bool, AllocError> {
+    ) -> Result<bool, AllocError>
+        ensures { IfOk result (λ there. there ≡ true → (value : V) × P.holds key.now value) }
+    {
         let mut guard = self.kept.lock(rt);
         let kept = &mut *guard;
         kept.contains_key(key, moment)

@@ -1,5 +1,6 @@
 //! What a look under the lock tells, by no call.
-ghost use Rattle.std.specs.Prelude.{◌≡◌, Some, IfOk, IfSome};
+ghost use Rattle.std.specs.Prelude.{◌≡◌, Some, IfOk, IfSome, nat_eq, true};
+ghost use Rattle.std.specs.HashMap.{get};
 ghost use Rattle.std.specs.Option.{option_map};
 ghost use Rattle.std.specs.HashMap.{hash_map_len};
 ghost use Rattle.moka_desk.specs.StandsFor.{StandsFor};
@@ -11,6 +12,7 @@ ghost use Rattle.moka_kept.specs.Counts.{mark_found, mark_of, sees, shows};
 use crate::ground::Reach;
 use crate::kept::Kept;
 use moka_desk::Desk;
+use moka_facts::Fact;
 use moka_hist::{TableAnswer, TableOp, TableTurn};
 use moka_init::Flow;
 use moka_needs::Need;
@@ -19,11 +21,19 @@ use moka_values::Exact;
 use std::alloc::AllocError;
 use std::hash::{BuildHasher, Hash};
 
-impl<K: Eq + Hash + Exact, V: Exact, E: Exact, S: BuildHasher + Drop> Kept<K, V, E, S> {
+impl<K: Eq + Hash + Exact, V: Exact, E: Exact, S: BuildHasher + Drop, P: Fact<K, V>> Kept<
+    K,
+    V,
+    E,
+    S,
+    P,
+> {
     /// Whether the key has a record that is visible, once the clock has moved on to the moment. An
     /// error comes where memory is wanting for a copy of the key or of its record. Nothing but the
     /// clock changes.
-    pub(crate) fn contains_key(&mut self, key: &K, moment: u64) -> Result<bool, AllocError> {
+    pub(crate) fn contains_key(&mut self, key: &K, moment: u64) -> Result<bool, AllocError>
+        ensures { IfOk result (λ there. there ≡ true → (value : V) × P.holds key.now value) }
+    {
         self.reach.move_clock(moment);
         self.reach.contains_key(key)
     }
@@ -34,7 +44,13 @@ impl<K: Eq + Hash + Exact, V: Exact, E: Exact, S: BuildHasher + Drop> Kept<K, V,
     }
 }
 
-impl<K: Eq + Hash + Exact, V: Exact, E: Exact, S: BuildHasher + Drop> Reach<K, V, E, S> {
+impl<K: Eq + Hash + Exact, V: Exact, E: Exact, S: BuildHasher + Drop, P: Fact<K, V>> Reach<
+    K,
+    V,
+    E,
+    S,
+    P,
+> {
     ghost use Rattle.moka_layers.specs.Layers.{WorldIs};
     ghost use Rattle.moka_table.specs.Plain.{plain_table};
     ghost use Rattle.moka_kept.specs.Kept.{IsKept, in_hand};
@@ -44,7 +60,7 @@ impl<K: Eq + Hash + Exact, V: Exact, E: Exact, S: BuildHasher + Drop> Reach<K, V
 
     /// The notice that keeps the lock which the flow's call is to take next, if one does.
     pub(crate) fn keeper(&self, flow: &Flow<K, V, E>) -> Option<u64>
-        requires { IsKept K.eq self.now.layers }
+        requires { IsKept K.eq P.holds (get nat_eq self.now.ends) self.now.layers }
         ensures { IfSome result (FindsKept K.eq flow.now) }
     {
         match flow.locking() {
@@ -56,7 +72,7 @@ impl<K: Eq + Hash + Exact, V: Exact, E: Exact, S: BuildHasher + Drop> Reach<K, V
     // The notice that keeps the lock of this key, which the flow's call is to take next, if one
     // does.
     fn keeper_of(&self, flow: &Flow<K, V, E>, key: &K) -> Option<u64>
-        requires kept { IsKept K.eq self.now.layers }
+        requires kept { IsKept K.eq P.holds (get nat_eq self.now.ends) self.now.layers }
         requires next { locking (call_of flow.now).plan ≡ Some key.now }
         ensures { IfSome result (FindsKept K.eq flow.now) }
     {
@@ -76,11 +92,13 @@ impl<K: Eq + Hash + Exact, V: Exact, E: Exact, S: BuildHasher + Drop> Reach<K, V
 
     // Whether the key has a record that is visible, by one look. No access moment is raised.
     fn contains_key(&mut self, key: &K) -> Result<bool, AllocError>
-        requires kept { IsKept K.eq self.old.layers }
-        ensures kept { IsKept K.eq self.new.layers }
+        requires kept { IsKept K.eq P.holds (get nat_eq self.old.ends) self.old.layers }
+        ensures kept { IsKept K.eq P.holds (get nat_eq self.new.ends) self.new.layers }
         ensures desk { self.new.layers.desk ≡ self.old.layers.desk }
         ensures sees { IfOk result (λ there. (w : World K V E)
             → WorldIs K.eq (plain_table K.eq) in_hand self.old.layers w → there ≡ sees w key.now) }
+        // Where there is one, some value meets the fact for the key.
+        ensures meets { IfOk result (λ there. there ≡ true → (value : V) × P.holds key.now value) }
     {
         let mark = find_mark(&mut self.layers.table, key)?;
         Ok(is_shown(&self.layers.desk, mark))

@@ -13,7 +13,7 @@ const PARTS: usize = 1;
 
 /// A call number that was given out. It has no `Drop`, so nobody can let it go: the flow of the
 /// call is made by it.
-pub struct Number {
+pub(crate) struct Number {
     call: u64,
 }
 
@@ -26,7 +26,11 @@ impl Number {
     }
 
     /// Makes the fresh flow of a call with this start and number, in a cache of these rules.
-    pub fn begin<K: Drop, V: Drop, E: Drop>(self, start: Start<K, V>, rules: Rules) -> Live<K, V, E>
+    pub(crate) fn begin<K: Drop, V: Drop, E: Drop>(
+        self,
+        start: Start<K, V>,
+        rules: Rules,
+    ) -> Live<K, V, E>
         ensures fresh { call_of result ≡ fresh_call 1 rules start }
         ensures number { result.call ≡ self.call }
         ensures rests { Rests result }

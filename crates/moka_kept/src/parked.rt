@@ -127,10 +127,23 @@ impl Parked {
             → length out.old.wakers + length place < 2 ^ 63
             → out.new.wakers ≡ out.old.wakers ++ place }
     {
-        if let Some(mut place) = self.places.remove(&call) {
+        if let Some(mut place) = take_place(&mut self.places, call) {
             out.take(&mut place);
         }
     }
+}
+
+// Takes the place of this call out, if it has one. Nothing is hashed where no call has one.
+#[inline(always)]
+fn take_place(places: &mut HashMap<u64, Wakers>, call: u64) -> Option<Wakers>
+    ensures value { result ≡ get nat_eq places.old call }
+    ensures gone { (n : ℕ) → get nat_eq places.new n
+        ≡ cond (nat_eq call n) None (get nat_eq places.old n) }
+{
+    if places.is_empty() {
+        return None;
+    }
+    places.remove(&call)
 }
 
 // Leaves the task's waker in the place, which is that of this call.

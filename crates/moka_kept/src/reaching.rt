@@ -1,15 +1,19 @@
 //! Calls and the clock, as they reach table and desk: whatever they do leaves a sound world.
-ghost use Rattle.std.specs.Prelude.{◌≡◌, ◌≤◌, Some, None, Bool, false, true, IfNone, IfOk, IfSome};
-ghost use Rattle.std.specs.Prelude.{OnErr, OnOk, OnSome, is_some, ◌+◌, ◌<◌};
+ghost use Rattle.std.specs.Prelude.{◌≡◌, ◌⊎◌, ◌≤◌, Some, None, Bool, false, true, IfNone, IfOk, IfSome};
+ghost use Rattle.std.specs.Prelude.{IsSome, OnErr, OnOk, OnSome, Option, is_some, nat_eq, ◌+◌, ◌<◌};
+ghost use Rattle.std.specs.HashMap.{get, spare};
 ghost use Rattle.std.specs.Bool.{OnFalse, OnTrue};
 ghost use Rattle.moka_hist.specs.Run.{last_call};
 ghost use Rattle.moka_hist.specs.State.{DeskPart};
 ghost use Rattle.moka_hist.specs.Visits.{is_running, makes};
 ghost use Rattle.moka_hist.specs.Telling.{is_asked, told};
+ghost use Rattle.moka_desk.specs.History.{keeps_heard};
 ghost use Rattle.moka_desk.specs.Past.{AllowsAlike};
 ghost use Rattle.moka_desk.specs.StandsFor.{StandsFor};
 ghost use Rattle.moka_init.specs.FlowPlan.{call_of, next_in, tested_in, Leaves, StandsStill};
 ghost use Rattle.moka_init.specs.Grounds.{HasBegun, access_at};
+ghost use Rattle.moka_init.specs.Openings.{opening_of};
+ghost use Rattle.moka_init.specs.PointPlan.{is_copied};
 ghost use Rattle.moka_hist.specs.declared.events.Told.{Told};
 ghost use Rattle.moka_hist.specs.declared.visits.Visit.{Visit};
 ghost use Rattle.moka_hist.specs.Conditions.{MayVisit};
@@ -17,11 +21,14 @@ ghost use Rattle.moka_needs.specs.Needs.{IsOfCall, need_of};
 ghost use Rattle.moka_needs.specs.Reads.{ReadsItsKind};
 ghost use Rattle.moka_kept.specs.Taking.{Answered, NoAnswer, Tested, end_told, is_of_call};
 ghost use Rattle.moka_kept.specs.Taking.{is_taking, needs_answer};
+ghost use Rattle.moka_init.specs.Needs.{need_at};
+ghost use Rattle.moka_kept.specs.Facts.{EndIsNoted, MakesSo, ReadsSo, ends_in, facts};
 ghost use Rattle.moka_kept.specs.Kept.{IsBrought, IsKept, IsToldTo, MayMake};
 ghost use Rattle.moka_kept.specs.Paths.{EndedWith};
 ghost use Rattle.moka_kept.specs.Rests.{Rests};
 
 use crate::brought::Brought;
+use crate::ends::ends_value;
 use crate::ground::Reach;
 use crate::guarded::ToWake;
 use crate::heard::ListenerEnd;
@@ -29,9 +36,10 @@ use crate::in_hand::InHand;
 use crate::number::Number;
 use crate::parked::{HandedOut, Parked};
 use moka_desk::Desk;
-use moka_hist::{Rules, Told, Turn};
+use moka_facts::Fact;
+use moka_hist::{Found, Got, Rules, Told, Turn};
 use moka_ids::PcgIds;
-use moka_init::{Flow, step};
+use moka_init::{Flow, Opening, step};
 use moka_layers::Layers;
 use moka_needs::Need;
 use moka_table::PlainTable;
@@ -42,7 +50,13 @@ use std::hash::{BuildHasher, Hash};
 /// How many writes the log has room for.
 const LOG_LENGTH: usize = 384;
 
-impl<K: Eq + Hash + Exact, V: Exact, E: Exact, S: BuildHasher + Drop> Reach<K, V, E, S> {
+impl<K: Eq + Hash + Exact, V: Exact, E: Exact, S: BuildHasher + Drop, P: Fact<K, V>> Reach<
+    K,
+    V,
+    E,
+    S,
+    P,
+> {
     /// Nothing is stored. This call number and those before it were given out.
     pub(crate) fn starting_after(
         alloc: Global,
@@ -52,7 +66,7 @@ impl<K: Eq + Hash + Exact, V: Exact, E: Exact, S: BuildHasher + Drop> Reach<K, V
     ) -> Result<Self, AllocError>
     where
         S: Clone,
-        ensures { IfOk result (λ reach. IsKept K.eq reach.layers) }
+        ensures { IfOk result (λ reach. IsKept K.eq P.holds (get nat_eq reach.ends) reach.layers) }
     {
         moka_laws::fresh_is_sound::<K, V, E>();
         moka_laws::entering_keeps_sound::<K, V, E>();
@@ -66,13 +80,13 @@ impl<K: Eq + Hash + Exact, V: Exact, E: Exact, S: BuildHasher + Drop> Reach<K, V
             tests: InHand { replaced: false },
             ids: PcgIds::new(0),
         };
-        Ok(Reach::over(layers))
+        Ok(Reach::over(alloc, layers))
     }
 
     /// Moves the clock on to the moment, where that is later.
     pub(crate) fn move_clock(&mut self, moment: u64)
-        requires { IsKept K.eq self.old.layers }
-        ensures kept { IsKept K.eq self.new.layers }
+        requires { IsKept K.eq P.holds (get nat_eq self.old.ends) self.old.layers }
+        ensures kept { IsKept K.eq P.holds (get nat_eq self.new.ends) self.new.layers }
         ensures clock { (w : DeskPart K V E) → StandsFor K.eq self.new.layers.desk w
             → moment ≤ w.clock }
     {
@@ -83,8 +97,8 @@ impl<K: Eq + Hash + Exact, V: Exact, E: Exact, S: BuildHasher + Drop> Reach<K, V
     /// Invalidates all records that were written before the clock: no look shows one from then on.
     /// The records stay stored.
     pub(crate) fn invalidate_all(&mut self)
-        requires { IsKept K.eq self.old.layers }
-        ensures kept { IsKept K.eq self.new.layers }
+        requires { IsKept K.eq P.holds (get nat_eq self.old.ends) self.old.layers }
+        ensures kept { IsKept K.eq P.holds (get nat_eq self.new.ends) self.new.layers }
         ensures hides { (w : DeskPart K V E) → StandsFor K.eq self.old.layers.desk w
             → StandsFor K.eq self.new.layers.desk (makes K.eq w Visit.InvalidateAll) }
         ensures table { self.new.layers.table ≡ self.old.layers.table }
@@ -95,8 +109,8 @@ impl<K: Eq + Hash + Exact, V: Exact, E: Exact, S: BuildHasher + Drop> Reach<K, V
 
     /// Gives the next call number out. Answers None where the greatest one was given out.
     pub(crate) fn enter(&mut self) -> Option<Number>
-        requires { IsKept K.eq self.old.layers }
-        ensures kept { IsKept K.eq self.new.layers }
+        requires { IsKept K.eq P.holds (get nat_eq self.old.ends) self.old.layers }
+        ensures kept { IsKept K.eq P.holds (get nat_eq self.new.ends) self.new.layers }
         ensures next { IfSome result (λ number. (w : DeskPart K V E)
             → StandsFor K.eq self.old.layers.desk w → (number.call ≡ w.last + 1)
             × StandsFor K.eq self.new.layers.desk (record w { last = number.call })) }
@@ -114,9 +128,10 @@ impl<K: Eq + Hash + Exact, V: Exact, E: Exact, S: BuildHasher + Drop> Reach<K, V
     /// Tells the call of this number the answer to its own ask, and gives those that it hands out.
     /// Answers None where no ask of it is open that takes the answer; nothing has changed then.
     pub(crate) fn tell(&mut self, call: u64, answer: Told<V, E>) -> Option<HandedOut>
-        requires { IsKept K.eq self.old.layers }
-        ensures kept { IsKept K.eq self.new.layers }
-        ensures told { OnSome result (IsToldTo K.eq self.new.layers call answer) }
+        requires { IsKept K.eq P.holds (get nat_eq self.old.ends) self.old.layers }
+        ensures kept { IsKept K.eq P.holds (get nat_eq self.new.ends) self.new.layers }
+        ensures told { OnSome result (IsToldTo K.eq P.holds (get nat_eq self.new.ends)
+            self.new.layers call answer) }
         ensures refused { IfNone result (is_of_call answer ≡ true → (w : DeskPart K V E)
             → StandsFor K.eq self.old.layers.desk w → is_asked w call answer ≡ false) }
         ensures same { IfNone result ((w : DeskPart K V E)
@@ -132,8 +147,8 @@ impl<K: Eq + Hash + Exact, V: Exact, E: Exact, S: BuildHasher + Drop> Reach<K, V
     /// Tells that the listener has ended the notice of this number, and gives those that it hands
     /// out. Answers None where that doesn't run; nothing has changed then.
     pub(crate) fn hear(&mut self, notice: u64, end: ListenerEnd) -> Option<HandedOut>
-        requires { IsKept K.eq self.old.layers }
-        ensures kept { IsKept K.eq self.new.layers }
+        requires { IsKept K.eq P.holds (get nat_eq self.old.ends) self.old.layers }
+        ensures kept { IsKept K.eq P.holds (get nat_eq self.new.ends) self.new.layers }
         // That end is told, and no other.
         ensures told { OnSome result ((w : DeskPart K V E)
             → StandsFor K.eq self.old.layers.desk w
@@ -149,8 +164,8 @@ impl<K: Eq + Hash + Exact, V: Exact, E: Exact, S: BuildHasher + Drop> Reach<K, V
 
     /// Takes the answer of a replace test in hand: each visit that judges by one goes by it.
     pub(crate) fn hold_answer(&mut self, replaced: bool)
-        requires { IsKept K.eq self.old.layers }
-        ensures kept { IsKept K.eq self.new.layers }
+        requires { IsKept K.eq P.holds (get nat_eq self.old.ends) self.old.layers }
+        ensures kept { IsKept K.eq P.holds (get nat_eq self.new.ends) self.new.layers }
         ensures held { self.new.layers.tests.replaced ≡ replaced }
     {
         self.layers.tests = InHand { replaced };
@@ -167,9 +182,10 @@ impl<K: Eq + Hash + Exact, V: Exact, E: Exact, S: BuildHasher + Drop> Reach<K, V
         parked: &mut Parked,
         woken: &mut ToWake,
     ) -> Option<bool>
-        requires { IsKept K.eq self.old.layers }
-        ensures kept { IsKept K.eq self.new.layers }
-        ensures brought { IfSome result (IsBrought K.eq self.new.layers call brought) }
+        requires { IsKept K.eq P.holds (get nat_eq self.old.ends) self.old.layers }
+        ensures kept { IsKept K.eq P.holds (get nat_eq self.new.ends) self.new.layers }
+        ensures brought { IfSome result
+            (IsBrought K.eq P.holds (get nat_eq self.new.ends) self.new.layers call brought) }
     {
         match brought {
             Brought::Nothing => Some(false),
@@ -189,10 +205,11 @@ impl<K: Eq + Hash + Exact, V: Exact, E: Exact, S: BuildHasher + Drop> Reach<K, V
         parked: &mut Parked,
         woken: &mut ToWake,
     ) -> Option<bool>
-        requires { IsKept K.eq self.old.layers }
-        ensures kept { IsKept K.eq self.new.layers }
+        requires { IsKept K.eq P.holds (get nat_eq self.old.ends) self.old.layers }
+        ensures kept { IsKept K.eq P.holds (get nat_eq self.new.ends) self.new.layers }
         ensures brought { IfSome result
-            (IsBrought K.eq self.new.layers call (Brought.Told answer)) }
+            (IsBrought K.eq P.holds (get nat_eq self.new.ends) self.new.layers call
+            (Brought.Told answer)) }
     {
         let handed = self.tell(call, answer)?;
         parked.hand_out(handed, woken);
@@ -200,29 +217,35 @@ impl<K: Eq + Hash + Exact, V: Exact, E: Exact, S: BuildHasher + Drop> Reach<K, V
     }
 
     /// Makes one step of a flow that rests, where the desk allows its next visit, and an owner's
-    /// end that it reads is of its kind: the visit that takes the answer to its own ask, if
-    /// `takes`, and any other, if not. Else, and after want of memory, the flow stands where it
-    /// stood. The wakers of all that the visit handed out come to those in `woken`.
+    /// end that it reads is of its kind, and of the key that it seeks: the visit that takes
+    /// the answer to its own ask, if `takes`, and any other, if not. Else, and after want of memory,
+    /// the flow stands where it stood. What it stores is to meet the fact. The wakers of all that the
+    /// visit handed out come to those in `woken`.
     pub(crate) fn step(
         &mut self,
         flow: &mut Flow<K, V, E>,
+        key: &Option<K>,
         takes: bool,
         parked: &mut Parked,
         woken: &mut ToWake,
     ) -> Result<Turn<K, V, E>, AllocError>
-        requires kept { IsKept K.eq self.old.layers }
+        requires kept { IsKept K.eq P.holds (get nat_eq self.old.ends) self.old.layers }
         requires rests { Rests flow.old }
-        ensures kept { IsKept K.eq self.new.layers }
+        requires so { MakesSo (facts K.eq P.holds) key.now (access_at flow.old) }
+        ensures kept { IsKept K.eq P.holds (get nat_eq self.new.ends) self.new.layers }
         // How it goes on, having taken no answer, the one that it was told, or that in hand.
         ensures untaken { takes ≡ false → tested_in (call_of flow.old).plan ≡ None
-            → IfOk result (λ turn. EndedWith K.eq NoAnswer flow.old.call (call_of flow.old)
+            → IfOk result (λ turn. EndedWith (facts K.eq P.holds) NoAnswer flow.old.call
+            (call_of flow.old)
             (next_in turn flow.new)) }
         ensures taken { takes ≡ true
-            → (told : Told V E) → IsToldTo K.eq self.old.layers flow.old.call told
-            → IfOk result (λ turn. EndedWith K.eq (λ t. t ≡ Answered told) flow.old.call
+            → (told : Told V E) → IsToldTo K.eq P.holds (get nat_eq self.old.ends) self.old.layers
+            flow.old.call told
+            → IfOk result (λ turn. EndedWith (facts K.eq P.holds) (λ t. t ≡ Answered told)
+            flow.old.call
             (call_of flow.old) (next_in turn flow.new)) }
         ensures judged { (value : V) → tested_in (call_of flow.old).plan ≡ Some value
-            → IfOk result (λ turn. EndedWith K.eq
+            → IfOk result (λ turn. EndedWith (facts K.eq P.holds)
             (λ t. t ≡ Tested value self.old.layers.tests.replaced) flow.old.call
             (call_of flow.old) (next_in turn flow.new)) }
         ensures leaves { IfOk result (λ turn. Leaves turn flow.new) }
@@ -232,36 +255,209 @@ impl<K: Eq + Hash + Exact, V: Exact, E: Exact, S: BuildHasher + Drop> Reach<K, V
         // Whom the visit handed out, nobody is to hand out any more.
         ensures out { OnOk result (self.new.woken ≡ None) }
     {
-        match may_step(&self.layers.desk, flow, takes) {
-            true => {
-                let made = self.step_allowed(flow);
-                self.hand_out(parked, woken);
-                made
-            }
+        let Ok(next) = flow.need() else {
+            return Err(AllocError);
+        };
+        let ends = ends_value(&next);
+        match may_step(&self.layers.desk, flow, next, takes) {
+            true => self.step_noted(flow, key, ends, parked, woken),
             false => Err(AllocError),
         }
     }
 
-    // Makes one step of a flow whose next visit the desk allows.
-    fn step_allowed(&mut self, flow: &mut Flow<K, V, E>) -> Result<Turn<K, V, E>, AllocError>
-        requires kept { IsKept K.eq self.old.layers }
+    // Makes one step of a flow whose next visit the desk allows, where an end that it reads is of the
+    // key that it seeks; `ends` says whether the visit ends its load with a value.
+    fn step_noted(
+        &mut self,
+        flow: &mut Flow<K, V, E>,
+        key: &Option<K>,
+        ends: bool,
+        parked: &mut Parked,
+        woken: &mut ToWake,
+    ) -> Result<Turn<K, V, E>, AllocError>
+        requires kept { IsKept K.eq P.holds (get nat_eq self.old.ends) self.old.layers }
         requires rests { Rests flow.old }
         requires may { (w : DeskPart K V E) → StandsFor K.eq self.old.layers.desk w
             → (flow.old.call ≤ w.last) × AllowsAlike K.eq self.old.layers.desk w
             (λ v. MayMake v (access_at flow.old)) }
         requires ends { (w : DeskPart K V E) → StandsFor K.eq self.old.layers.desk w
             → ReadsItsKind w flow.old.call (call_of flow.old) }
-        ensures kept { IsKept K.eq self.new.layers }
+        requires so { MakesSo (facts K.eq P.holds) key.now (access_at flow.old) }
+        requires value { ends ≡ ends_in (need_at (access_at flow.old)) }
+        ensures kept { IsKept K.eq P.holds (get nat_eq self.new.ends) self.new.layers }
         ensures untaken { is_taking (access_at flow.old) ≡ false
             → tested_in (call_of flow.old).plan ≡ None
-            → IfOk result (λ turn. EndedWith K.eq NoAnswer flow.old.call (call_of flow.old)
+            → IfOk result (λ turn. EndedWith (facts K.eq P.holds) NoAnswer flow.old.call
+            (call_of flow.old) (next_in turn flow.new)) }
+        ensures taken { is_taking (access_at flow.old) ≡ true
+            → (told : Told V E) → IsToldTo K.eq P.holds (get nat_eq self.old.ends)
+            self.old.layers flow.old.call told
+            → IfOk result (λ turn. EndedWith (facts K.eq P.holds)
+            (λ t. t ≡ Answered told) flow.old.call (call_of flow.old) (next_in turn flow.new)) }
+        ensures judged { (value : V) → tested_in (call_of flow.old).plan ≡ Some value
+            → IfOk result (λ turn. EndedWith (facts K.eq P.holds)
+            (λ t. t ≡ Tested value self.old.layers.tests.replaced) flow.old.call
+            (call_of flow.old) (next_in turn flow.new)) }
+        ensures leaves { IfOk result (λ turn. Leaves turn flow.new) }
+        ensures begun { HasBegun None flow.new }
+        ensures number { flow.new.call ≡ flow.old.call }
+        ensures err { OnErr result (StandsStill flow.old flow.new) }
+        ensures out { OnOk result (self.new.woken ≡ None) }
+    {
+        if !self.reads_own(flow) {
+            return Err(AllocError);
+        }
+        let owner = self.owner_read(flow);
+        match self.note_end(flow, key, ends) {
+            Ok(()) => {
+                let made = self.make_step(flow, key);
+                self.forget_end(owner);
+                self.hand_out(parked, woken);
+                made
+            }
+            Err(e) => Err(e),
+        }
+    }
+
+    // Makes one step of a flow whose next visit the desk allows. A notice that is due is opened
+    // without copies of key and value, where the desk keeps neither.
+    #[inline(always)]
+    fn make_step(
+        &mut self,
+        flow: &mut Flow<K, V, E>,
+        key: &Option<K>,
+    ) -> Result<Turn<K, V, E>, AllocError>
+        requires kept { IsKept K.eq P.holds (get nat_eq self.old.ends) self.old.layers }
+        requires rests { Rests flow.old }
+        requires so { MakesSo (facts K.eq P.holds) key.now (access_at flow.old) }
+        requires reads { (w : DeskPart K V E) → StandsFor K.eq self.old.layers.desk w
+            → ReadsSo P.holds w flow.old.call (call_of flow.old) }
+        requires noted { (w : DeskPart K V E) → StandsFor K.eq self.old.layers.desk w
+            → EndIsNoted P.holds (get nat_eq self.old.ends) w (access_at flow.old) }
+        requires may { (w : DeskPart K V E) → StandsFor K.eq self.old.layers.desk w
+            → (flow.old.call ≤ w.last) × AllowsAlike K.eq self.old.layers.desk w
+            (λ v. MayMake v (access_at flow.old)) }
+        requires ends { (w : DeskPart K V E) → StandsFor K.eq self.old.layers.desk w
+            → ReadsItsKind w flow.old.call (call_of flow.old) }
+        ensures kept { IsKept K.eq P.holds (get nat_eq self.new.ends) self.new.layers }
+        ensures untaken { is_taking (access_at flow.old) ≡ false
+            → tested_in (call_of flow.old).plan ≡ None
+            → IfOk result (λ turn. EndedWith (facts K.eq P.holds) NoAnswer flow.old.call
+            (call_of flow.old) (next_in turn flow.new)) }
+        ensures taken { is_taking (access_at flow.old) ≡ true
+            → (told : Told V E) → IsToldTo K.eq P.holds (get nat_eq self.old.ends)
+            self.old.layers flow.old.call told
+            → IfOk result (λ turn. EndedWith (facts K.eq P.holds)
+            (λ t. t ≡ Answered told) flow.old.call (call_of flow.old) (next_in turn flow.new)) }
+        ensures judged { (value : V) → tested_in (call_of flow.old).plan ≡ Some value
+            → IfOk result (λ turn. EndedWith (facts K.eq P.holds)
+            (λ t. t ≡ Tested value self.old.layers.tests.replaced) flow.old.call
+            (call_of flow.old) (next_in turn flow.new)) }
+        ensures leaves { IfOk result (λ turn. Leaves turn flow.new) }
+        ensures begun { HasBegun None flow.new }
+        ensures number { flow.new.call ≡ flow.old.call }
+        ensures err { OnErr result (StandsStill flow.old flow.new) }
+    {
+        match self.opening(flow) {
+            Some(opening) => self.open(flow, opening),
+            None => self.step_allowed(flow, key),
+        }
+    }
+
+    // What the flow's notice is opened with, where that is due, and the desk doesn't keep what the
+    // listener hears by it.
+    #[inline(always)]
+    fn opening(&self, flow: &Flow<K, V, E>) -> Option<Opening>
+        ensures due { IfSome result
+            (λ opening. opening_of (access_at flow.now) ≡ Some opening) }
+        ensures unkept { IsSome result → keeps_heard self.now.layers.desk ≡ false }
+    {
+        match flow.opening() {
+            Some(opening) => match self.layers.desk.keeps_heard() {
+                true => None,
+                false => Some(opening),
+            },
+            None => None,
+        }
+    }
+
+    // Opens the flow's notice, which the desk allows, and copies neither key nor value for it. Memory
+    // is wanting only where what the call answers of the record isn't copied yet, or where no place
+    // is left of those that were taken with the moments of writes.
+    #[cold]
+    #[inline(never)]
+    fn open(
+        &mut self,
+        flow: &mut Flow<K, V, E>,
+        opening: Opening,
+    ) -> Result<Turn<K, V, E>, AllocError>
+        requires kept { IsKept K.eq P.holds (get nat_eq self.old.ends) self.old.layers }
+        requires rests { Rests flow.old }
+        requires may { (w : DeskPart K V E) → StandsFor K.eq self.old.layers.desk w
+            → (flow.old.call ≤ w.last) × AllowsAlike K.eq self.old.layers.desk w
+            (λ v. MayMake v (access_at flow.old)) }
+        requires ends { (w : DeskPart K V E) → StandsFor K.eq self.old.layers.desk w
+            → ReadsItsKind w flow.old.call (call_of flow.old) }
+        requires reads { (w : DeskPart K V E) → StandsFor K.eq self.old.layers.desk w
+            → ReadsSo P.holds w flow.old.call (call_of flow.old) }
+        requires due { opening_of (access_at flow.old) ≡ Some opening }
+        requires unkept { keeps_heard self.old.layers.desk ≡ false }
+        ensures kept { IsKept K.eq P.holds (get nat_eq self.new.ends) self.new.layers }
+        ensures untaken { IfOk result (λ turn. EndedWith (facts K.eq P.holds) NoAnswer
+            flow.old.call (call_of flow.old) (next_in turn flow.new)) }
+        ensures leaves { IfOk result (λ turn. Leaves turn flow.new) }
+        ensures begun { HasBegun None flow.new }
+        ensures number { flow.new.call ≡ flow.old.call }
+        ensures err { OnErr result (StandsStill flow.old flow.new) }
+        ensures needs { OnErr result ((is_copied flow.old.point ≡ false)
+            ⊎ (spare self.old.layers.desk.notices.running ≡ 0)) }
+    {
+        moka_laws::visits_keep_sound::<K, V, E>();
+        let call = flow.number();
+        flow.copy()?;
+        let told = self.layers.desk.open_unheard(
+            call,
+            opening.stamp,
+            opening.modified,
+            opening.cause,
+            opening.upsert,
+        )?;
+        Ok(flow.take(Got::Desk(Found::OpenNotice(told))))
+    }
+
+    // Makes one step of a flow whose next visit the desk allows, what it reads of an end, if it reads
+    // one, meets the fact for the key that it seeks, and what it ends its load with is noted.
+    fn step_allowed(
+        &mut self,
+        flow: &mut Flow<K, V, E>,
+        key: &Option<K>,
+    ) -> Result<Turn<K, V, E>, AllocError>
+        requires kept { IsKept K.eq P.holds (get nat_eq self.old.ends) self.old.layers }
+        requires rests { Rests flow.old }
+        requires so { MakesSo (facts K.eq P.holds) key.now (access_at flow.old) }
+        requires reads { (w : DeskPart K V E) → StandsFor K.eq self.old.layers.desk w
+            → ReadsSo P.holds w flow.old.call (call_of flow.old) }
+        requires noted { (w : DeskPart K V E) → StandsFor K.eq self.old.layers.desk w
+            → EndIsNoted P.holds (get nat_eq self.old.ends) w (access_at flow.old) }
+        requires may { (w : DeskPart K V E) → StandsFor K.eq self.old.layers.desk w
+            → (flow.old.call ≤ w.last) × AllowsAlike K.eq self.old.layers.desk w
+            (λ v. MayMake v (access_at flow.old)) }
+        requires ends { (w : DeskPart K V E) → StandsFor K.eq self.old.layers.desk w
+            → ReadsItsKind w flow.old.call (call_of flow.old) }
+        ensures kept { IsKept K.eq P.holds (get nat_eq self.new.ends) self.new.layers }
+        ensures untaken { is_taking (access_at flow.old) ≡ false
+            → tested_in (call_of flow.old).plan ≡ None
+            → IfOk result (λ turn. EndedWith (facts K.eq P.holds) NoAnswer flow.old.call
+            (call_of flow.old)
             (next_in turn flow.new)) }
         ensures taken { is_taking (access_at flow.old) ≡ true
-            → (told : Told V E) → IsToldTo K.eq self.old.layers flow.old.call told
-            → IfOk result (λ turn. EndedWith K.eq (λ t. t ≡ Answered told) flow.old.call
+            → (told : Told V E) → IsToldTo K.eq P.holds (get nat_eq self.old.ends) self.old.layers
+            flow.old.call told
+            → IfOk result (λ turn. EndedWith (facts K.eq P.holds) (λ t. t ≡ Answered told)
+            flow.old.call
             (call_of flow.old) (next_in turn flow.new)) }
         ensures judged { (value : V) → tested_in (call_of flow.old).plan ≡ Some value
-            → IfOk result (λ turn. EndedWith K.eq
+            → IfOk result (λ turn. EndedWith (facts K.eq P.holds)
             (λ t. t ≡ Tested value self.old.layers.tests.replaced) flow.old.call
             (call_of flow.old) (next_in turn flow.new)) }
         ensures leaves { IfOk result (λ turn. Leaves turn flow.new) }
@@ -300,12 +496,14 @@ fn is_of_call<V, E>(answer: &Told<V, E>) -> bool
 
 // Whether the call has a number that was given out, and the desk allows its next visit, which takes
 // the answer to its own ask, if `takes`, and doesn't, if not; and an owner's end that it reads is
-// one of the kind that it waits for. False too where memory is wanting to tell.
+// one of the kind that it waits for. This is what that visit needs.
 fn may_step<K: Eq + Hash + Exact, V: Exact, E: Exact, S: BuildHasher + Drop>(
     desk: &Desk<K, V, E, S>,
     flow: &Flow<K, V, E>,
+    next: Option<Need<K>>,
     takes: bool,
 ) -> bool
+    requires { next ≡ need_at (access_at flow.now) }
     ensures may { OnTrue result ((w : DeskPart K V E) → StandsFor K.eq desk.now w
         → (flow.now.call ≤ w.last)
         × AllowsAlike K.eq desk.now w (λ v. MayMake v (access_at flow.now))) }
@@ -319,9 +517,6 @@ fn may_step<K: Eq + Hash + Exact, V: Exact, E: Exact, S: BuildHasher + Drop>(
     if !reads_its_kind(desk, flow) {
         return false;
     }
-    let Ok(next) = flow.need() else {
-        return false;
-    };
     match next {
         Some(need) => may_visit(desk, flow.number(), need, takes),
         None => !takes,

@@ -80,6 +80,8 @@ pub mod Apart
 pub mod OwnedUntil
 pub mod StartedOnce
 pub mod Giving
+pub mod FairSteps
+pub mod FactSteps
 pub mod OnlyGiven
 pub mod FirstItem
 pub mod Missed

@@ -21,6 +21,7 @@ pub mod Alone
 pub mod Removals
 pub mod Computes
 pub mod Given
+pub mod Fair
 pub mod Leaving
 pub mod Predicates
 pub mod Maintaining

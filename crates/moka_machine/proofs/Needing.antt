@@ -1,5 +1,5 @@
 -- Where memory may be wanting.
-use Rattle.std.proofs.Common.{◌≡◌, ◌⊎◌, ◌==◌, ℕ, Bool, true, false, cond, Option, Some, None, is_some, MatchOption, refl, sym, ap, subst, ◌∙◌, inl, inr}
+use Rattle.std.proofs.Common.{◌≡◌, ◌⊎◌, ◌==◌, ℕ, Bool, true, Option, Some, None, MatchOption, refl, sym, ap, subst, ◌∙◌, inl, inr}
 use Rattle.std.specs.declared.cmp.PartialEq as PartialEq
 use Rattle.std.specs.declared.hash.Hash as Hash
 use Rattle.std.specs.Option.{option_and_then, option_map_or}
@@ -7,11 +7,9 @@ use Rattle.moka_hist.specs.Finite.{put_at}
 use Rattle.moka_hist.specs.State.{Call, DeskPart, State, World}
 use Rattle.moka_hist.specs.Step.{Access, access_of}
 use Rattle.moka_hist.specs.Step as step
-use Rattle.moka_hist.specs.Visits.{is_running, runs, settlement_for}
-use Rattle.moka_hist.specs.declared.notices.Notice.{Notice}
+use Rattle.moka_hist.specs.Visits.{is_running, settlement_for}
 use Rattle.moka_hist.specs.declared.visits.Visit.{Visit}
 use Rattle.moka_hist.specs.declared.visits.Visit.TheVariants as visit
-use Rattle.moka_desk.specs.Notices.{if_running}
 use Rattle.moka_desk.specs.StandsFor as desk
 use Rattle.moka_init.specs.Grounds.{SettledNeedsMemory, VisitTakesCopies}
 use Rattle.moka_layers.specs.Needing.{StepNeedsMemory, VisitNeedsMemory}
@@ -21,16 +19,6 @@ use Rattle.moka_machine.specs.Machine.{MachineIs}
 use Rattle.moka_machine.specs.WantOfMemory.{CallNeedsMemory}
 use Rattle.moka_machine.specs.declared.machine.Machine.{Machine}
 use Rattle.moka_machine.proofs.Places.{set_at}
-
-module _ {K V : Type 0} where
-  -- whether a notice runs, by those that do
-  run_by : (o : Option (Notice K V)) → option_map_or (λ x. runs x.state) o false ≡ is_some (if_running o)
-  run_by None = refl
-  run_by (Some x) = by (runs x.state)
-    where
-      by : (b : Bool) → b ≡ is_some (cond b (Some x) None)
-      by true = refl
-      by false = refl
 
 -- the same is found in maps that have the same
 found_end : {A : Type 0} (f g : ℕ → Option A) → ((n : ℕ) → f n ≡ g n) → (a b : Option ℕ) → a ≡ b → option_and_then f a ≡ option_and_then g b
@@ -44,7 +32,7 @@ module _ {K V E : Type 0} {same : PartialEq.Ghosts K} {hash : Hash.Ghosts K} (eq
   -- whichever state the desk stands for
   same_running : (d : TheDesk K V E same hash) (w u : DeskPart K V E) (number : ℕ) → desk.StandsFor eq d w → desk.StandsFor eq d u → is_running w number ≡ is_running u number
   same_running d w u number h k =
-      run_by (w.notices number) ∙ ap is_some (sym (h.notices.running number) ∙ k.notices.running number) ∙ sym (run_by (u.notices number))
+      sym (h.notices.running number) ∙ k.notices.running number
 
   same_end : (d : TheDesk K V E same hash) (w u : DeskPart K V E) (n : ℕ) → desk.StandsFor eq d w → desk.StandsFor eq d u → settlement_for w n ≡ settlement_for u n
   same_end d w u n h k =

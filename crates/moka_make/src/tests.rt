@@ -128,14 +128,15 @@ fn other_words_are_refused(rt: HostRuntime) -> Result<(), Fail> {
 
 #[test]
 fn a_failing_write_leaves_the_front_of_the_summary(rt: HostRuntime) -> Result<(), Fail> {
-    let rows = [(0, ""), (1, "t"), (9, "turns 1\ne")];
-    for (write, written) in rows {
-        let ended = make_of(rt.alloc(), "make 1 7", &[write])?;
-        assert_eq!(rt; ended.status, Status::WriteFault, "at write {write}");
+    let whole = text_of(rt.alloc(), &[1, 11, 2, 1, 2, 1, 2, 1, 0, 1, 0, 0])?;
+    for write in 0..whole.len() {
+        let ended = make_of(rt.alloc(), "make 1 7", &[write as u64])?;
+        let written = Some(ended.bytes.as_slice());
+        assert_eq!(rt; ended.status, Status::WriteFault, "after {write} bytes");
         assert_eq!(rt;
-            ended.bytes.as_slice(),
-            written.as_bytes(),
-            "at write {write}"
+            written,
+            whole.as_bytes().get(..write),
+            "after {write} bytes"
         );
     }
     Ok(())

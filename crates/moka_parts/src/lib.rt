@@ -6,7 +6,6 @@ mod bare;
 mod book;
 mod change;
 mod counted;
-mod fact;
 mod front;
 mod held;
 mod named;
@@ -21,7 +20,7 @@ mod table;
 
 pub use book::{Law, Naming};
 pub use change::Change;
-pub use fact::{Anything, Fact};
+pub use moka_facts::{Anything, Fact};
 pub use named::{NamedParts, NamedSeat};
 pub use note::Note;
 pub use open_book::{OpenBook, PARTS};

@@ -6,7 +6,7 @@ use std::process::Abort;
 use std::test::Fail;
 
 /// Schedules, each with the report that it comes to.
-const ROWS: [(&str, &str); 22] = [
+pub(crate) const ROWS: [(&str, &str); 22] = [
     // A compute asks with what the key has, and does what it is told.
     (
         "cache log=8 / start compute 1 / poll 1 / start compute_alone 1 / poll 2 / tell 1 put 5 / poll 1 / start upsert 1 / poll 3 / tell 3 value 8 / poll 3 / start compute 1 / poll 4 / tell 4 nop / poll 4",

@@ -6,7 +6,7 @@ use std::process::Abort;
 use std::test::Fail;
 
 /// Schedules, each with the report that it comes to.
-const ROWS: [(&str, &str); 7] = [
+pub(crate) const ROWS: [(&str, &str); 8] = [
     // A dropped owner leaves the load to one that waits.
     (
         "cache log=8 / start get_with 1 / start get_with 1 / poll 1 / poll 2 / drop 1 / poll 2 / tell 2 value 9 / poll 2",
@@ -24,6 +24,11 @@ const ROWS: [(&str, &str); 7] = [
     (
         "cache log=8 / start get_with 1 / poll 1 / start get_with 1 / poll 2 / drop 2 / poll 2 / tell 1 value 7 / poll 1",
         "call 1 / ask init / call 2 / wait / dropped / refused UnknownCall / told / answer value 7 fresh / entry 1 7 stamp 1 at 0 / write 1 logged",
+    ),
+    // A dropped call that waits for a lock leaves it to its holder.
+    (
+        "cache log=8 listener / start insert 1 5 / poll 1 / start insert 1 6 / poll 2 / start insert 1 7 / poll 3 / drop 3 / tell 2 done / poll 2",
+        "call 1 / answer done / call 2 / ask listener 1 5 Replaced / call 3 / wait / dropped / told / answer done / entry 1 6 stamp 2 at 0 / write 1 logged / write 2 logged / notice 2 1 5 Replaced ended",
     ),
     // A dropped write is owed, and drained by the next call.
     (
@@ -43,7 +48,7 @@ const ROWS: [(&str, &str); 7] = [
 /// Schedules in which a call is dropped at each kind of point where it may be parked. Each is followed
 /// to its end: what it left is told, taken up, posted and applied, so that nothing is owed, and each
 /// committed write stands in one place.
-const PARKED: [(&str, &str); 15] = [
+pub(crate) const PARKED: [(&str, &str); 18] = [
     // At a key's lock.
     (
         "cache log=8 listener / start insert 1 5 / poll 1 / start insert 1 6 / poll 2 / start insert 1 7 / poll 3 / drop 3 / tell 2 done / poll 2 / start pending / poll 4",
@@ -71,7 +76,8 @@ const PARKED: [(&str, &str); 15] = [
         "cache log=8 / start compute 1 / poll 1 / tell 1 put 7 / drop 1 / start get 1 / poll 2 / start pending / poll 3",
         "call 1 / ask compute none / told / dropped / call 2 / answer none / call 3 / answer done",
     ),
-    // At its own notice, which runs or has ended: of a write in another's place, a removal, a compute.
+    // At its own notice, which runs or has ended: of a write in another's place, a load, a removal, an
+    // eviction, a compute.
     (
         "cache log=8 listener / start insert 1 5 / poll 1 / start insert 1 6 / poll 2 / drop 2 / tell 2 done / start pending / poll 3",
         "call 1 / answer done / call 2 / ask listener 1 5 Replaced / dropped / told / call 3 / answer done / entry 1 6 stamp 2 at 0 / write 1 applied / write 2 applied / notice 2 1 5 Replaced ended",
@@ -81,8 +87,16 @@ const PARKED: [(&str, &str); 15] = [
         "call 1 / answer done / call 2 / ask listener 1 5 Replaced / told / dropped / call 3 / answer done / entry 1 6 stamp 2 at 0 / write 1 applied / write 2 applied / notice 2 1 5 Replaced ended",
     ),
     (
+        "cache log=8 ttl=9 listener / start insert 3 4 / poll 1 / at 9 / start get_with 3 / poll 2 / tell 2 value 6 / poll 2 / drop 2 / tell 2 done / start pending / poll 3",
+        "call 1 / answer done / at / call 2 / ask init / told / ask listener 3 4 Expired / dropped / told / call 3 / answer done / entry 3 6 stamp 2 at 9 / write 1 applied / write 2 applied / notice 2 3 4 Expired ended",
+    ),
+    (
         "cache log=8 listener / start insert 1 5 / poll 1 / start remove 1 / poll 2 / drop 2 / tell 2 done / start pending / poll 3",
         "call 1 / answer done / call 2 / ask listener 1 5 Explicit / dropped / told / call 3 / answer done / write 1 applied / write 2 applied / notice 2 1 5 Explicit ended",
+    ),
+    (
+        "cache cap=1 log=8 listener / start insert 3 4 / poll 1 / start evict 3 1 Size / poll 2 / drop 2 / tell 2 done / start pending / poll 3",
+        "call 1 / answer done / call 2 / ask listener 3 4 Size / dropped / told / call 3 / answer done / write 1 applied / write 2 applied / notice 2 3 4 Size ended",
     ),
     (
         "cache log=8 listener / start insert 1 5 / poll 1 / start compute 1 / poll 2 / tell 2 put 6 / poll 2 / drop 2 / tell 2 done / start pending / poll 3",
@@ -93,10 +107,15 @@ const PARKED: [(&str, &str); 15] = [
         "cache log=8 listener / start insert 1 5 / poll 1 / start insert 1 6 / poll 2 / drop 2 / start get 1 / poll 3 / drop 3 / tell 2 done / start pending / poll 4",
         "call 1 / answer done / call 2 / ask listener 1 5 Replaced / dropped / call 3 / wait / dropped / told / call 4 / answer done / entry 1 6 stamp 2 at 0 / write 1 applied / write 2 applied / notice 2 1 5 Replaced ended",
     ),
-    // At the maintenance turn: maintenance between two steps can't be dropped, and a call that waits can.
+    // At the maintenance turn: maintenance between two steps can't be dropped, and a call that waits can,
+    // also maintenance.
     (
         "cache log=1 / start insert 1 5 / poll 1 / start pending / step 2 / step 2 / start insert 2 6 / poll 3 / start insert 3 7 / poll 4 / drop 2 / drop 3 / poll 4 / poll 2 / poll 4 / start pending / poll 5",
         "call 1 / answer done / call 2 / going / going / call 3 / wait / call 4 / wait / refused NotParked / dropped / wait / answer done / answer done / call 5 / answer done / entry 1 5 stamp 1 at 0 / entry 2 6 stamp 3 at 0 / entry 3 7 stamp 4 at 0 / write 1 applied / write 3 applied / write 4 applied",
+    ),
+    (
+        "cache log=2 / start insert 3 4 / poll 1 / start pending / step 2 / step 2 / start pending / poll 3 / drop 3 / poll 2 / start pending / poll 4",
+        "call 1 / answer done / call 2 / going / going / call 3 / wait / dropped / answer done / call 4 / answer done / entry 3 4 stamp 1 at 0 / write 1 applied",
     ),
     // At an item of a walk.
     (

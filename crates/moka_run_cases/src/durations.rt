@@ -4,7 +4,7 @@ use crate::in_memory::are_reported;
 use std::test::Fail;
 
 /// Schedules under a time to live or to idle, each with the report that it comes to.
-const EXPIRING: [(&str, &str); 25] = [
+pub(crate) const EXPIRING: [(&str, &str); 25] = [
     // A record is past at the last nanosecond, and stays stored until a call takes it out.
     (
         "cache log=8 ttl=10 / start insert 1 5 / poll 1 / at 9 / start get 1 / poll 2 / at 10 / start get 1 / poll 3 / start compute 1 / poll 4 / tell 4 remove / poll 4",
@@ -119,7 +119,7 @@ const EXPIRING: [(&str, &str); 25] = [
 ];
 
 /// Schedules in which all records are invalidated, each with the report that it comes to.
-const INVALIDATED: [(&str, &str); 11] = [
+pub(crate) const INVALIDATED: [(&str, &str); 11] = [
     // What was written at the moment of the invalidation is spared, and what was before is hidden.
     (
         "cache log=8 / at 7 / start insert 1 5 / poll 1 / start invalidate_all / poll 2 / start get 1 / poll 3 / at 8 / start invalidate_all / poll 4 / start get 1 / poll 5",

@@ -1,6 +1,6 @@
 //! Plays that end otherwise than done.
 
-use crate::in_memory::{play_bytes, text_of, words_of};
+use crate::in_memory::{play_by_bytes, play_bytes, text_of, words_of};
 use moka_ends::{Failed, ListSink, Source};
 use moka_run::{Status, play};
 use std::alloc::{AllocError, Global};
@@ -144,5 +144,24 @@ fn a_failing_write_leaves_the_front_of_the_report(rt: HostRuntime) -> Result<(),
         let ended = play_bytes(rt.alloc(), &["play"], bytes.as_bytes(), &[], &[write])?;
         assert!(rt; ended.came_to(status, code, written), "at write {write}");
     }
+    Ok(())
+}
+
+#[test]
+fn a_write_may_fail_after_any_number_of_bytes(rt: HostRuntime) -> Result<(), Fail> {
+    let bytes = text_of(rt.alloc(), LOOK)?;
+    let report = text_of(rt.alloc(), "call 1 / answer none")?;
+    for write in 0..report.len() {
+        let ended = play_by_bytes(rt.alloc(), bytes.as_bytes(), &[write as u64])?;
+        let written = Some(ended.bytes.as_slice());
+        assert_eq!(rt; ended.status, Status::WriteFault, "after {write} bytes");
+        assert_eq!(rt;
+            written,
+            report.as_bytes().get(..write),
+            "after {write} bytes"
+        );
+    }
+    let ended = play_by_bytes(rt.alloc(), bytes.as_bytes(), &[report.len() as u64])?;
+    assert!(rt; ended.came_to(Status::Done, 0, &report));
     Ok(())
 }

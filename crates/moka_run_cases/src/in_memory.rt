@@ -87,6 +87,14 @@ pub fn play_pieces(
     play_between(alloc, &["play"], source, sink)
 }
 
+/// Plays the bytes, of which one comes a read, and one goes a write. The writes of the numbers in
+/// `writes` fail.
+pub fn play_by_bytes(alloc: Global, bytes: &[u8], writes: &[u64]) -> Result<Played, AllocError> {
+    let source = ListSource::new(bytes.to_vec(alloc)?, 1, Vec::new(alloc));
+    let sink = ListSink::new(alloc, 1, writes.to_vec(alloc)?);
+    play_between(alloc, &["play"], source, sink)
+}
+
 /// Whether the schedule is played to the report. ` / ` parts lines.
 pub fn is_reported(alloc: Global, schedule: &str, report: &str) -> Result<bool, AllocError> {
     let bytes = text_of(alloc, schedule)?;

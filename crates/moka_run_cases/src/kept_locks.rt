@@ -4,7 +4,7 @@ use crate::in_memory::are_reported;
 use std::test::Fail;
 
 /// Schedules, each with the report that it comes to.
-const ROWS: [(&str, &str); 7] = [
+pub(crate) const ROWS: [(&str, &str); 7] = [
     // A write of the key waits until that notice has ended, and then opens its own.
     (
         "cache log=8 listener / start insert 1 5 / poll 1 / start insert 1 6 / start insert 1 7 / poll 2 / poll 3 / drop 2 / poll 3 / tell 2 done / poll 3 / tell 3 done / poll 3",

@@ -34,6 +34,8 @@ mod pieces;
 #[cfg(test)]
 mod predicates;
 #[cfg(test)]
+mod refused;
+#[cfg(test)]
 mod removals;
 #[cfg(test)]
 mod rows;

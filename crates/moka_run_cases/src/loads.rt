@@ -4,7 +4,7 @@ use crate::in_memory::are_reported;
 use std::test::Fail;
 
 /// Schedules, each with the report that it comes to.
-const ROWS: [(&str, &str); 35] = [
+pub(crate) const ROWS: [(&str, &str); 35] = [
     // Loads of one key by different kinds run side by side.
     (
         "cache log=8 / start get_with 1 / start optional 1 / poll 1 / poll 2 / tell 2 nothing / poll 2",

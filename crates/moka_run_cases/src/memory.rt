@@ -19,6 +19,9 @@ use std::test::Fail;
 /// How often the events are run on.
 const TRIES: usize = 3;
 
+/// How many answers a load is told, of which it takes the first.
+const TELLS: usize = 10_000;
+
 /// What a row needs before it is run: its events, a fresh machine, room for its replies, and the
 /// report that it is to come to.
 #[derive(Drop)]
@@ -66,9 +69,23 @@ fn rest_after<'a>(
     events.get(memory.replies.len()..)
 }
 
+/// Whether memory may be wanting where it was: before the first event, or in a start, a step or a
+/// poll, or after the last event; not where the clock moves on, an answer is told or a call dropped.
+fn may_be_wanting(events: &[Event<u32, u32, u32>], memory: &Memory<u32, u32, u32>) -> bool {
+    if memory.done == 0 {
+        return true;
+    }
+    match events.get(memory.replies.len()) {
+        Some(Event::At { .. }) => false,
+        Some(Event::Tell { .. }) => false,
+        Some(Event::Drop { .. }) => false,
+        _ => true,
+    }
+}
+
 /// Runs the events to the last, and runs on where memory was wanting.
 fn run_on(
-    rt: &(impl AllocGlobal + Eprint),
+    rt: &(impl AllocGlobal + Abort + Eprint),
     name: &str,
     machine: &mut Machine<u32, u32, u32, NumberTests>,
     events: &[Event<u32, u32, u32>],
@@ -88,6 +105,7 @@ fn run_on(
                     "wanting in {name}: event {}, step {}",
                     memory.done, memory.steps
                 )?;
+                assert!(rt; may_be_wanting(rest, &memory), "{name}");
                 keep(replies, memory.replies.as_slice())?;
                 rest = rest_after(rest, &memory).ok_or(AllocError)?;
             }
@@ -110,6 +128,18 @@ fn made_at_last(
     }
     eprintln!(rt; "wanting in {name}: before the run")?;
     Ok(made(rt.alloc(), schedule, report)?)
+}
+
+/// Runs each schedule of a table of this name, and compares what it comes to.
+pub(crate) fn each_comes_to(
+    rt: &(impl AllocGlobal + Abort + Eprint),
+    table: &str,
+    rows: &[(&str, &str)],
+) -> Result<(), Fail> {
+    for row in rows {
+        comes_to(rt, table, row.0, row.1)?;
+    }
+    Ok(())
 }
 
 /// Runs a schedule, and compares what it comes to.
@@ -156,7 +186,7 @@ fn text_of_report(
 }
 
 /// Schedules with their reports, and a name for each.
-const ROWS: [(&str, &str, &str); 32] = [
+const ROWS: [(&str, &str, &str); 36] = [
     (
         "a_get",
         "cache log=8 / start get 1 / poll 1",
@@ -317,6 +347,26 @@ const ROWS: [(&str, &str, &str); 32] = [
         "cache log=8 ttl=10 listener / start insert 1 5 / poll 1 / start iter / poll 2 / at 3 / start insert 1 6 / poll 3 / start iter / poll 4 / poll 2 / start remove 1 / poll 5 / drop 3 / tell 3 done / poll 5 / poll 4 / tell 5 off / poll 5 / start insert 1 7 / poll 6 / at 13 / start iter / poll 7",
         "call 1 / answer done / call 2 / item 1 5 / at / call 3 / ask listener 1 5 Replaced / call 4 / item 1 6 / answer end / call 5 / wait / dropped / told / ask listener 1 6 Explicit / answer end / told / answer some 6 / call 6 / answer done / at / call 7 / answer end / entry 1 7 stamp 6 at 3 / write 1 logged / write 3 logged / write 5 logged / write 6 logged / notice 3 1 5 Replaced ended / notice 5 1 6 Explicit ended",
     ),
+    (
+        "maintenance",
+        "cache log=1 / start insert 1 5 / poll 1 / start pending / step 2 / step 2 / start insert 2 6 / poll 3 / start pending / poll 4",
+        "call 1 / answer done / call 2 / going / going / call 3 / wait / call 4 / wait / entry 1 5 stamp 1 at 0 / entry 2 6 stamp 3 at 0 / write 1 logged / write 3 held",
+    ),
+    (
+        "maintenance_at_a_full_log",
+        "cache log=1 / start insert 1 5 / poll 1 / start pending / step 2 / step 2 / start insert 2 6 / poll 3 / start insert 3 7 / poll 4 / drop 2 / drop 3 / poll 4 / poll 2 / poll 4 / start pending / poll 5",
+        "call 1 / answer done / call 2 / going / going / call 3 / wait / call 4 / wait / refused NotParked / dropped / wait / answer done / answer done / call 5 / answer done / entry 1 5 stamp 1 at 0 / entry 2 6 stamp 3 at 0 / entry 3 7 stamp 4 at 0 / write 1 applied / write 3 applied / write 4 applied",
+    ),
+    (
+        "maintenance_that_lets_a_predicate_go",
+        "cache log=8 closures / start invalidate_if 2 / poll 1 / start insert 1 4 / poll 2 / start get 1 / poll 3 / start pending / poll 4 / at 1 / start evict 1 2 Explicit / poll 5 / start pending / poll 6",
+        "call 1 / answer id 20ae25da-d4e2-4c53-98f9-38e12bbf69fb / call 2 / answer done / call 3 / answer none / call 4 / answer done / at / call 5 / answer evicted / call 6 / answer done / write 2 applied / write 5 applied",
+    ),
+    (
+        "maintenance_under_a_listener",
+        "cache log=8 listener closures / start insert 1 4 / poll 1 / start invalidate_if 2 / poll 2 / at 1 / start insert 1 6 / poll 3 / tell 3 done / poll 3 / start get 1 / poll 4 / start pending / poll 5",
+        "call 1 / answer done / call 2 / answer id 20ae25da-d4e2-4c53-98f9-38e12bbf69fb / at / call 3 / ask listener 1 4 Replaced / told / answer done / call 4 / answer some 6 / call 5 / answer done / entry 1 6 stamp 3 at 1 / write 1 applied / write 3 applied / notice 3 1 4 Replaced ended",
+    ),
 ];
 
 /// Runs each of the schedules, and compares what it comes to.
@@ -333,4 +383,33 @@ fn come_to(
 #[test]
 fn a_run_goes_on_where_memory_was_wanting(rt: HostRuntime) -> Result<(), Fail> {
     come_to(&rt, &ROWS)
+}
+
+/// A load that is told a value so often, and what it comes to.
+fn many_tells(alloc: Global) -> Result<(String, String), AllocError> {
+    let mut schedule = String::from_str(alloc, "cache log=8 / start get_with 1 / poll 1")?;
+    let mut report = String::from_str(alloc, "call 1 / ask init / told")?;
+    schedule.push_str(" / tell 1 value 7")?;
+    for _ in 1..TELLS {
+        schedule.push_str(" / tell 1 value 7")?;
+        report.push_str(" / refused NotAsked")?;
+    }
+    schedule.push_str(" / poll 1")?;
+    report.push_str(" / answer value 7 fresh / entry 1 7 stamp 1 at 0 / write 1 logged")?;
+    Ok((schedule, report))
+}
+
+/// The same, also where memory is wanting once.
+fn many_tells_at_last(rt: &(impl AllocGlobal + Eprint)) -> Result<(String, String), Fail> {
+    if let Ok(row) = many_tells(rt.alloc()) {
+        return Ok(row);
+    }
+    eprintln!(rt; "wanting in many_tells: before the run")?;
+    Ok(many_tells(rt.alloc())?)
+}
+
+#[test]
+fn a_run_stops_at_none_of_many_tells(rt: HostRuntime) -> Result<(), Fail> {
+    let (schedule, report) = many_tells_at_last(&rt)?;
+    comes_to(&rt, "many_tells", &schedule, &report)
 }

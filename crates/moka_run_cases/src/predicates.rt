@@ -4,7 +4,7 @@ use crate::in_memory::are_reported;
 use std::test::Fail;
 
 /// Schedules, each with the report that it comes to.
-const ROWS: [(&str, &str); 24] = [
+pub(crate) const ROWS: [(&str, &str); 24] = [
     // A predicate hides a record that is written at its moment, after it, and spares what is written later.
     (
         "cache log=8 closures / start invalidate_if 2 / poll 1 / start insert 1 4 / poll 2 / start get 1 / poll 3",
@@ -121,7 +121,7 @@ fn what_predicates_hide_is_reported(rt: HostRuntime) -> Result<(), Fail> {
 }
 
 /// Schedules with maintenance, each with the report that it comes to.
-const MAINTAINED: [(&str, &str); 14] = [
+pub(crate) const MAINTAINED: [(&str, &str); 14] = [
     // A predicate stays while it hides a record, and while its moment isn't past; then it leaves.
     (
         "cache log=8 closures / start invalidate_if 2 / poll 1 / start insert 1 4 / poll 2 / start get 1 / poll 3 / start pending / poll 4",

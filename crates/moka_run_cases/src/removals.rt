@@ -4,7 +4,7 @@ use crate::in_memory::are_reported;
 use std::test::Fail;
 
 /// Schedules, each with the report that it comes to.
-const ROWS: [(&str, &str); 24] = [
+pub(crate) const ROWS: [(&str, &str); 24] = [
     // A record that is removed is not found again.
     (
         "cache log=8 / start insert 1 5 / poll 1 / start remove 1 / poll 2 / start remove 1 / poll 3 / start get 1 / poll 4",

@@ -4,7 +4,7 @@ use crate::in_memory::are_reported;
 use std::test::Fail;
 
 /// Schedules, each with the report that it comes to.
-const ROWS: [(&str, &str); 11] = [
+pub(crate) const ROWS: [(&str, &str); 11] = [
     // Calls answer what was stored.
     ("cache", ""),
     (

@@ -7,7 +7,7 @@ use crate::in_memory::are_reported;
 use std::test::Fail;
 
 /// Schedules, each with the report that it comes to.
-const ROWS: [(&str, &str); 22] = [
+pub(crate) const ROWS: [(&str, &str); 22] = [
     // A walk gives what is stored and comes to its end; then its number is unknown, and the record is as it was.
     (
         "cache cap=1 log=8 / start insert 1 5 / poll 1 / start iter / poll 2 / poll 2 / poll 2 / start evict 1 9 Size / poll 3 / start evict 1 1 Expired / poll 4 / start evict 1 1 Size / poll 5",

@@ -17,7 +17,7 @@ use Rattle.moka_history.proofs.Fronts.{good_now}
 use Rattle.moka_shared.specs.declared.answers.TryGet.{TryGet}
 use Rattle.moka_shared.specs.declared.answers.TryGet.TheVariants as get
 use Rattle.moka_shared.specs.Looks.{Finds, IsSo}
-use Rattle.moka_shared.specs.Probing.{EndsAt, HasProbed, IsLogOf, own_keys, own_words}
+use Rattle.moka_shared.specs.Probing.{EndsAt, HasProbed, IsFirstRoot, IsLogOf, own_keys, own_words}
 use Rattle.moka_shared.specs.Tables.{Table}
 use Rattle.moka_shared.proofs.Probed.{ended_is_history, full_is_history, known_is, pair}
 
@@ -47,7 +47,7 @@ module _ {K V S : Type 0} (eq : K → K → Bool) (hash : S → K → ℕ) (plac
   ended_finds passed word ends got finds =
       subst (λ (p : Option (K × V)). Finds p got) (sym (ended_is_history eq hash place divided t key below h h_is log x passed word ends)) finds
 
-  pub full_finds : HasProbed eq place t key h log t.size → Finds (map_after eq (entries_of log) key) (get.Found None)
+  pub full_finds : HasProbed eq place t key h log t.size × IsFirstRoot (place t.hasher t.segments key) log → Finds (map_after eq (entries_of log) key) (get.Found None)
   full_finds probed = subst (λ (p : Option (K × V)). Finds p (get.Found None)) (sym (full_is_history eq hash place divided t key below h h_is log x probed)) refl
 
   -- the fact holds of what was found

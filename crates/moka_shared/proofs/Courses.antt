@@ -1,5 +1,5 @@
 -- The course of a call whose loads a probe makes.
-use Rattle.std.proofs.Common.{◌≡◌, ℕ, zero, suc, ◌+◌, ◌*◌, ◌^◌, ◌<◌, ◌≤◌, Bool, true, false, List, [], ◌∷◌, Option, Some, None, refl, sym, ap, subst, ◌∙◌, if◌then◌else◌, arith, pow_mono}
+use Rattle.std.proofs.Common.{◌≡◌, ◌⊎◌, ℕ, zero, suc, ◌+◌, ◌*◌, ◌^◌, ◌<◌, ◌≤◌, Bool, true, false, List, [], ◌∷◌, Option, Some, None, inl, inr, refl, sym, ap, subst, ◌∙◌, if◌then◌else◌, arith, pow_mono}
 use Rattle.std.proofs.Math.Nat.{le-min}
 use Rattle.std.proofs.lemmas.Bool.{lt-leb, lt-ltb}
 use Rattle.std.specs.Option.{option_map_or}
@@ -29,9 +29,9 @@ use Rattle.moka_shared.specs.declared.answers.TryGet.{TryGet}
 use Rattle.moka_shared.specs.declared.answers.TryGet.TheVariants as get
 use Rattle.moka_shared.specs.Looks.{Finds, IsFound}
 use Rattle.moka_shared.specs.Meeting.{IsOthers}
-use Rattle.moka_shared.specs.Probing.{EndsAt, HasProbed, IsLogOf, Loads, own_keys, own_words}
+use Rattle.moka_shared.specs.Probing.{EndsAt, HasProbed, IsFirstRoot, IsLogOf, Loads, own_keys, own_words}
 use Rattle.moka_shared.specs.Tables.{Table}
-use Rattle.moka_shared.proofs.Probed.{known_is, long, own_at, own_is, there}
+use Rattle.moka_shared.proofs.Probed.{known_is, loaded_first, long, open_bare, own_at, own_is, there}
 
 no_node : {n : ℕ} → None ≡ Some n → ⊥
 no_node e = cc
@@ -41,6 +41,11 @@ no_other e = cc
 
 pub unchanged : (m : Memory) → IsUnchanged m m
 unchanged m = (λ a. refl, record { arrays = refl; rooted = refl; fresh = refl })
+
+-- what has passed a bucket has begun
+pub has_begun : (passed : ℕ) (Begun : Type 0) → 0 < passed → (passed ≡ 0) ⊎ Begun → Begun
+has_begun passed Begun some (inl none) = absurd (omega (arith, some, none))
+has_begun passed Begun some (inr begun) = begun
 
 -- an array has a word
 pub power_some : (n : ℕ) → IsPowerOfTwo n → 0 < n
@@ -118,12 +123,12 @@ module _ {K V S : Type 0} (eq : K → K → Bool) (hash : S → K → ℕ) (plac
     abbrev known : ℕ → Option K
     known = own_keys place t key log
 
-    -- the array stands t.size (own_at place t key) k h as root from the beginning
+    -- the array stands there as root
     abbrev rooted : Accessed K V S
     rooted = record { found = log; saw = seen.Root (Some (suc (own_at place t key))) t.size 0 0; left = log }
 
-    pub course_begins : 0 < t.size → HasCome eq hash place t key k h log log (λ step. step ≡ stands t.size (own_at place t key) k h 0)
-    course_begins some = record {
+    pub course_begins : IsFirstRoot (own_at place t key) log → 0 < t.size → HasCome eq hash place t key k h log log (λ step. step ≡ stands t.size (own_at place t key) k h 0)
+    course_begins first some = record {
       accesses = rooted ∷ [];
       step = stands t.size (own_at place t key) k h 0;
       course = (
@@ -131,7 +136,7 @@ module _ {K V S : Type 0} (eq : K → K → Bool) (hash : S → K → ℕ) (plac
         (prefix_self log, refl),
         record {
           goes_on = prefix_self log;
-          effect = λ keys agrees. (refl, sym (long eq hash place divided t key below h h_is log x), refl, refl, unchanged (own_memory eq hash place t key log));
+          effect = λ keys agrees. (sym first, sym (long eq hash place divided t key below h h_is log x), refl, refl, unchanged (own_memory eq hash place t key log));
         },
         begins k has t.size (own_at place t key) h some,
         prefix_self log,
@@ -217,6 +222,22 @@ module _ {K V S : Type 0} (eq : K → K → Bool) (hash : S → K → ℕ) (plac
           (λ step. step ≡ probed (probing t.size (own_at place t key) k h passed) (suc (own_at place t key)) t.size passed word true)
           (λ step is. is ∙ is_own word opens) (course_loads old front more inside come)
 
+  -- Where it stands that has passed so many buckets. Before the first load it has loaded no root.
+  pub comes_there : (old front log : List (Note K V S)) → IsLogOf eq hash place t log → IsPrefix old front → IsPrefix front log → IsFirstRoot (own_at place t key) log →
+      0 < t.size → (passed : ℕ) →
+      (passed ≡ 0) ⊎ HasCome eq hash place t key k h old front (λ step. step ≡ stands t.size (own_at place t key) k h passed) →
+      HasCome eq hash place t key k h old log (λ step. step ≡ stands t.size (own_at place t key) k h passed)
+  comes_there old front log x less more first some passed (inl none) =
+      subst (λ n. HasCome eq hash place t key k h old log (λ step. step ≡ stands t.size (own_at place t key) k h n)) (sym none)
+      (come_sooner eq hash place t key k h old log log (λ step. step ≡ stands t.size (own_at place t key) k h 0) (prefix_through old front log less more)
+      (course_begins log x first some))
+  comes_there old front log x less more first some passed (inr come) =
+      come_later eq hash place t key k h old front log (λ step. step ≡ stands t.size (own_at place t key) k h passed) more come
+
+  -- a call that is broken off
+  pub comes_at_all : (old log : List (Note K V S)) → IsPrefix old log → HasCome eq hash place t key k h old log (λ step. Unit {0})
+  comes_at_all old log less = record { accesses = []; step = Going (call_from k h); course = (less, refl); is = tt }
+
   -- past all buckets
   pub course_full : (old new : List (Note K V S)) (passed : ℕ) → passed ≡ t.size → 0 < t.size → HasCome eq hash place t key k h old new (λ step. step ≡ stands t.size (own_at place t key) k h passed) →
       HasCome eq hash place t key k h old new (λ step. (n : ℕ) × (step ≡ past_all k (probing t.size (own_at place t key) k h n) (suc (own_at place t key)) t.size))
@@ -232,10 +253,14 @@ module _ {K V S : Type 0} (eq : K → K → Bool) (hash : S → K → ℕ) (plac
   -- a word that was loaded where the probe stands
   module _ (old front log : List (Note K V S)) (y : IsLogOf eq hash place t front) (segment index : ℕ) (word : Word)
       (loads : Loads eq hash place t segment index word front log) (is : segment ≡ own_at place t key) (passed : ℕ) (at_is : index ≡ bucket_at t.size h passed)
-      (inside : passed < t.size) (probed_so : HasProbed eq place t key h front passed)
-      (come : HasCome eq hash place t key k h old front (λ step. step ≡ stands t.size (own_at place t key) k h passed)) where
+      (inside : passed < t.size) (probed_so : HasProbed eq place t key h front passed) (less : IsPrefix old front)
+      (come : (passed ≡ 0) ⊎ HasCome eq hash place t key k h old front (λ step. step ≡ stands t.size (own_at place t key) k h passed)) where
     here : word_at (own_words place t key log) (bucket_at t.size h passed) ≡ word
     here = there eq hash place divided t key below h h_is front log y segment index word loads is passed at_is inside probed_so
+
+    begun : is_sealed word ≡ false → HasCome eq hash place t key k h old log (λ step. step ≡ stands t.size (own_at place t key) k h passed)
+    begun bare = comes_there old front log loads.goes_on.is_log less loads.goes_on.begins
+        (loaded_first eq hash place divided t key below h h_is front log y segment index word loads is passed at_is inside probed_so bare) (omega (arith, inside)) passed come
 
     pub probe_passes : IsOthers (eq key) (state_of log).pairs word → HasCome eq hash place t key k h old log (λ step. step ≡ stands t.size (own_at place t key) k h (passed + 1))
     probe_passes others =
@@ -243,16 +268,12 @@ module _ {K V S : Type 0} (eq : K → K → Bool) (hash : S → K → ℕ) (plac
         let own_not = own_is eq hash place divided t key below h h_is log loads.goes_on.is_log (bucket_at t.size h passed) others.0 (ap node_of here ∙ others.1)
         (own_keys place t key log) (agrees_now (own_keys place t key log)) false others.2 in
         subst (λ n. HasCome eq hash place t key k h old log (λ step. step ≡ stands t.size (own_at place t key) k h n)) more
-        (course_passes log loads.goes_on.is_log passed word here old front loads.goes_on.begins inside others.0 others.1 others.3
-        (ap (λ o. option_map_or (own_for eq (own_keys place t key log) (Some key)) o false) others.1 ∙ own_not) come)
+        (course_passes log loads.goes_on.is_log passed word here old log (prefix_self log) inside others.0 others.1 others.3
+        (ap (λ o. option_map_or (own_for eq (own_keys place t key log) (Some key)) o false) others.1 ∙ own_not) (begun others.3))
 
     pub probe_ends : EndsAt eq place t key h log passed word →
         HasCome eq hash place t key k h old log (λ step. step ≡ probed (probing t.size (own_at place t key) k h passed) (suc (own_at place t key)) t.size passed word true)
-    probe_ends ends = course_ends log loads.goes_on.is_log passed word here old front loads.goes_on.begins inside ends.opens come
-
-    pub probe_breaks : HasCome eq hash place t key k h old log (λ step. Unit {0})
-    probe_breaks =
-        come_so eq hash place t key k h old log _ (λ step. Unit {0}) (λ step is. tt) (course_loads log loads.goes_on.is_log passed word here old front loads.goes_on.begins inside come)
+    probe_ends ends = course_ends log loads.goes_on.is_log passed word here old log (prefix_self log) inside ends.opens (begun (open_bare (own_by eq (own_keys place t key log) key) word ends.opens))
 
 -- what a look answers is where its call ended
 module _ {K V S : Type 0} (eq : K → K → Bool) (t : Table S) (pairs : ℕ → Option (K × V)) (segment h : ℕ) where

@@ -27,6 +27,13 @@ module _ {K V S : Type 0} (eq : K → K → Bool) (hash : S → K → ℕ) (plac
     pub last_small : (state_of log).last ≤ 2 ^ 60
     last_small = (good_now eq hash place log (kept_as eq hash place t log x)).drawn.last
 
+    -- the number of a segment's first array was drawn
+    pub first_drawn : (segment : ℕ) → segment < t.segments → segment + 1 ≤ (state_of log).last
+    first_drawn segment below =
+        let least = (good_now eq hash place log (kept_as eq hash place t log x)).drawn.first in
+        let is = segments_now in
+        omega (arith, least, is, below)
+
   -- the last ticket rises
   pub last_rises : (old new : List (Note K V S)) → IsLogOf eq hash place t old → IsLogOf eq hash place t new → IsPrefix old new →
       (state_of old).last ≤ (state_of new).last

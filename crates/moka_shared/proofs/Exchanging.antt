@@ -36,7 +36,7 @@ use Rattle.moka_shared.specs.Hashing.{segment_of}
 use Rattle.moka_shared.specs.Probing.{GoesOn, HasProbed, IsLogOf, ReadsAt}
 use Rattle.moka_shared.specs.Steps.{MayExchange, Sees, Spends}
 use Rattle.moka_shared.specs.Tables.{Table}
-use Rattle.moka_shared.proofs.Loading.{found_is, found_there, kept_as, opened_more, opened_some, row_is}
+use Rattle.moka_shared.proofs.Loading.{first_rooted, first_was, found_is, found_there, kept_as, opened_more, opened_some, row_is}
 use Rattle.moka_shared.proofs.Probed.{long, own_at, probed_lasts}
 
 -- an entry that comes last is one of those made on its ticket
@@ -84,7 +84,7 @@ module _ {K V S : Type 0} (eq : K → K → Bool) (hash : S → K → ℕ) (plac
     hashed = can.hashed;
     fits = λ keys agrees. (
       record {
-        rooted = record { place = 0; before = omega arith; there = refl };
+        rooted = first_was eq hash place t log x (own_at place t key) below;
         size_is = sym (long eq hash place divided t key below h can.hashed log x);
         passed_are = still keys agrees;
         more = can.ends.within;
@@ -144,7 +144,8 @@ module _ {K V S : Type 0} (eq : K → K → Bool) (hash : S → K → ℕ) (plac
       word_then = word_at (words_in (state_of m) (suc (own_at place t key))) index
 
       small_then : IsSmall word_then
-      small_then n names = (words_have_pairs eq hash place m (kept_as eq hash place t m m_log) (own_at place t key) below index n names).3
+      small_then n names = (words_have_pairs eq hash place m (kept_as eq hash place t m m_log) (own_at place t key) (suc (own_at place t key))
+          (first_rooted eq hash place t m m_log (own_at place t key) below) index n names).3
 
       held : HoldsThere bucket (number_of from) m
       held = subst (λ k. HoldsThere k (number_of from) m) there_is (subst (λ n. HoldsThere there n m) from_is spends.writes.holds)
@@ -241,7 +242,8 @@ module _ {K V S : Type 0} (eq : K → K → Bool) (hash : S → K → ℕ) (plac
         -- where that isn't sealed, it was changed by an entry
         came : is_sealed word ≡ false → (y : Entry K V) × (slice_get (entries_of new) (length (entries_of front)) ≡ Some y) × (y.ticket ≢ ticket)
         came bare =
-            elim (entry_between eq hash place new (kept_as eq hash place t new new_log) front front_new (own_at place t key) index below differs) [
+            elim (entry_between eq hash place new (kept_as eq hash place t new new_log) front front_new (own_at place t key) (suc (own_at place t key)) index
+            (first_rooted eq hash place t front can.was (own_at place t key) below) differs) [
               | inl sealed ↦ absurd (false≢true (sym bare ∙ (ap is_sealed (sym own_there) ∙ sealed)))
               | inr made ↦ (let (y, at_front, others) = made in (y, at_front, others own ticket away))
             ]

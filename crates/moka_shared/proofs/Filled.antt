@@ -1,5 +1,5 @@
 -- An array without a free bucket was filled by puts.
-use Rattle.std.proofs.Common.{◌≡◌, ℕ, ◌<◌, Bool, List, Some, refl, sym, ap, subst, suc, ◌∙◌}
+use Rattle.std.proofs.Common.{◌≡◌, ℕ, ◌<◌, Bool, List, Some, refl, sym, ap, subst, suc, ◌∙◌, arith}
 use Rattle.std.specs.Prelude.{IsSome}
 use Rattle.moka_words.specs.Arrays.{bucket_at}
 use Rattle.moka_words.specs.Words.{node_of, word_at}
@@ -12,7 +12,7 @@ use Rattle.moka_history.specs.Keeping.{ArePut, IsDivided}
 use Rattle.moka_history.proofs.Fronts.{full_put}
 use Rattle.moka_shared.specs.Probing.{HasProbed, IsLogOf, own_keys, own_words}
 use Rattle.moka_shared.specs.Tables.{Table}
-use Rattle.moka_shared.proofs.Loading.{kept_as}
+use Rattle.moka_shared.proofs.Loading.{first_rooted, kept_as}
 use Rattle.moka_shared.proofs.Probed.{long, own_at}
 
 module _ {K V S : Type 0} (eq : K → K → Bool) (hash : S → K → ℕ) (place : S → ℕ → K → ℕ) (divided : IsDivided eq hash place) (t : Table S) (key : K)
@@ -32,4 +32,6 @@ module _ {K V S : Type 0} (eq : K → K → Bool) (hash : S → K → ℕ) (plac
     filled segment count segment_is count_is =
         subst (λ s. ArePut eq (place t.hasher t.segments) (entries_of log) s count) (sym segment_is)
         (subst (λ n. ArePut eq (place t.hasher t.segments) (entries_of log) (own_at place t key) n) (sym count_is)
-        (full_put eq hash place log (kept_as eq hash place t log x) (own_at place t key) below full))
+        (subst (λ n. ArePut eq (place t.hasher t.segments) (entries_of log) (own_at place t key) n) (long eq hash place divided t key below h h_is log x)
+        (full_put eq hash place log (kept_as eq hash place t log x) (own_at place t key) (suc (own_at place t key)) (first_rooted eq hash place t log x (own_at place t key) below)
+        (λ index inside. full index (let l = long eq hash place divided t key below h h_is log x in omega (arith, inside, l))))))

@@ -1,8 +1,9 @@
 -- A row that is linked, and words that are copied into it.
-use Rattle.std.proofs.Common.{◌≡◌, ◌≢◌, ℕ, ◌+◌, ◌*◌, ◌<◌, Bool, true, false, List, [], ◌∷◌, ◌++◌, length, Some, suc, refl, sym, ap, subst, ◌∙◌, arith}
+use Rattle.std.proofs.Common.{◌≡◌, ◌≢◌, ℕ, ◌+◌, ◌*◌, ◌<◌, Bool, true, false, List, [], ◌∷◌, ◌++◌, length, Some, None, suc, refl, sym, ap, subst, ◌∙◌, arith}
 use Rattle.std.specs.List.{slice_get}
 use mathlib.Core.List.{IsPrefix}
 use Rattle.logbook.specs.Pages.{Named, Nib, cell}
+use Rattle.boxcar.specs.Table.{first}
 use Rattle.moka_words.specs.declared.words.Word.{Word}
 use Rattle.moka_words.specs.declared.words.Word.TheVariants.{Unset}
 use Rattle.moka_words.specs.declared.accesses.Seen.TheVariants as seen
@@ -17,8 +18,8 @@ use Rattle.moka_history.specs.Keeping.{IsDivided, IsReady}
 use Rattle.moka_history.specs.Logs.{entries_of, state_of}
 use Rattle.moka_history.specs.Moving.{MayLink}
 use Rattle.moka_history.specs.Rules.{IsFront, IsKept, IsOpenedFor, IsRowStill, Lasts, keys_of}
-use Rattle.moka_history.specs.States.{Next, Owner, after, memory_of, numbered, unopened, words_in}
-use Rattle.moka_history.proofs.Chains.{unlinked}
+use Rattle.moka_history.specs.States.{Next, Owner, after, memory_of, no_next, numbered, unopened, words_in}
+use Rattle.moka_history.proofs.Chains.{place_one, unlinked}
 use Rattle.moka_history.proofs.Copying.{copied_set, copied_there, copy_there}
 use Rattle.moka_history.proofs.Folds.{state_more}
 use Rattle.moka_history.proofs.Fronts.{cell_now, cells_now, good_now, lasts_now, next_now, opened_too}
@@ -34,11 +35,12 @@ use Rattle.moka_shared.specs.declared.asked.Copying.{Copying}
 use Rattle.moka_shared.specs.declared.asked.Linking.{Linking}
 use Rattle.moka_shared.specs.Links.{Copies, Follows, IsThere, JoinsRow, Links, LinksSo, MayCopy, MayJoin, WantsCopy, WantsLink, keys_in}
 use Rattle.moka_shared.specs.Probing.{IsLogOf}
-use Rattle.moka_shared.specs.Rows.{AreRow, HoldsTicket, Leaves, plan_for}
+use Rattle.moka_shared.specs.Rows.{AreRow, HoldsTicket, IsBehind, Leaves, plan_for}
 use Rattle.moka_shared.specs.Steps.{Sees}
 use Rattle.moka_shared.specs.Tables.{Table}
-use Rattle.moka_shared.proofs.Loading.{kept_as, opened_more}
-use Rattle.moka_shared.proofs.Rowing.{row_lasts}
+use Rattle.moka_shared.proofs.Loading.{first_rooted, kept_as, opened_more}
+use Rattle.moka_shared.proofs.Moved.{none_first}
+use Rattle.moka_shared.proofs.Rowing.{behind_lasts, row_lasts}
 
 -- a log after which there are segments has notes, and one after which there is a cell
 pub some_cells : {K V S : Type 0} (log : List (Note K V S)) (key : ℕ) (o : Owner) → slice_get (state_of log).cells key ≡ Some o → 0 < length log
@@ -48,6 +50,11 @@ some_cells (note ∷ log) key o at = omega arith
 some_notes : {K V S : Type 0} (log : List (Note K V S)) (segment : ℕ) → segment < (state_of log).segments → 0 < length log
 some_notes [] segment below = absurd (omega (arith, below))
 some_notes (note ∷ log) segment below = omega arith
+
+-- the first item of a list without one is that which is put behind
+first_more : (xs : List ℕ) (x : ℕ) → slice_get xs 0 ≡ None → slice_get (xs ++ x ∷ []) 0 ≡ Some x
+first_more [] x none = refl
+first_more (y ∷ xs) x none = absurd (no_item (sym none))
 
 -- a log is one of the table
 pub is_log : {K V S : Type 0} (eq : K → K → Bool) (hash : S → K → ℕ) (place : S → ℕ → K → ℕ) (t : Table S) (log : List (Note K V S)) →
@@ -98,7 +105,7 @@ module _ {K V S : Type 0} (eq : K → K → Bool) (hash : S → K → ℕ) (plac
 
   -- a row that may be linked
   module _ (old log : List (Note K V S)) (x : IsLogOf eq hash place t log) (begins : IsPrefix old log) (segment : ℕ) (below : segment < t.segments)
-      (ticket : ℕ) (words : List Named) (pen : Nib) (row : AreRow t.book ticket words old)
+      (ticket : ℕ) (words : List Named) (after_them : Named) (pen : Nib) (row : AreRow t.book ticket words old) (behind : IsBehind t.book ticket words after_them old)
       (announced : HoldsTicket ticket (plan_for segment (length words)) pen old)
       (wants : WantsLink eq hash place t.hasher t.segments segment (length words) old) where
     some : 0 < length old
@@ -119,7 +126,10 @@ module _ {K V S : Type 0} (eq : K → K → Bool) (hash : S → K → ℕ) (plac
     next_cell : (a : ℕ) × (slice_get (state_of log).cells (1 + t.segments * t.size + segment) ≡ Some (Next (suc segment) a))
     next_cell = next_now eq hash place log (kept_as eq hash place t log x) segment below
 
-    pub may_link : (next : ℕ) → next ≡ 1 + t.segments * t.size + segment → MayLink (state_of log) segment pen.key ticket next keys
+    behind_now : IsBehind t.book ticket words after_them log
+    behind_now = behind_lasts eq hash place old log some begins (kept_as eq hash place t log x) t.book ticket words after_them behind
+
+    pub may_link : (next : ℕ) → next ≡ 1 + t.segments * t.size + segment → MayLink (state_of log) segment (suc segment) pen.key ticket next keys after_them.key
     may_link next next_is =
         let then = lasts old log x begins some in
         let (b, there, home) = then.announced pen.key ticket announced.home announced.there in
@@ -137,6 +147,8 @@ module _ {K V S : Type 0} (eq : K → K → Bool) (hash : S → K → ℕ) (plac
               let (v, at, is) = named i k e in
               let (w, at_yet, is_yet) = named j k f in
               row_now.differ i j v w at at_yet (sym is ∙ is_yet);
+          last = behind_now.one.home;
+          apart = λ i k at same. (let (w, there_yet, is) = named i k at in behind_now.apart i w there_yet (sym is ∙ same));
           array = next_cell.0;
           free = ap (slice_get (state_of log).cells) next_is ∙ next_cell.1;
         }
@@ -148,26 +160,27 @@ module _ {K V S : Type 0} (eq : K → K → Bool) (hash : S → K → ℕ) (plac
     wanted_now count is = subst (λ n. WantsLink eq hash place t.hasher t.segments segment n log) (sym is) (link_wanted old log x begins some segment (length words) wants)
 
     pub may_join : (next : ℕ) → next ≡ 1 + t.segments * t.size + segment → (asked : Linking) → asked.ticket ≡ ticket → asked.segment ≡ segment →
-        asked.keys.numbers ≡ keys → MayJoin eq hash place next pen.key asked log
-    may_join next next_is asked ticket_is segment_is keys_are = record {
+        asked.keys.numbers ≡ keys → first asked.behind.numbers ≡ after_them.key → MayJoin eq hash place next pen.key asked log
+    may_join next next_is asked ticket_is segment_is keys_are behind_is = record {
       segments = t.segments;
       first = t.size;
       hasher = t.hasher;
       opened = x.opened;
       wants = subst (λ s. WantsLink eq hash place t.hasher t.segments s (length asked.keys.numbers) log) (sym segment_is)
           (wanted_now (length asked.keys.numbers) (ap (λ ns. length ns) keys_are ∙ long));
-      may = subst (λ s. MayLink (state_of log) s pen.key asked.ticket next asked.keys.numbers) (sym segment_is)
-          (subst (λ n. MayLink (state_of log) segment pen.key n next asked.keys.numbers) (sym ticket_is)
-          (subst (λ ns. MayLink (state_of log) segment pen.key ticket next ns) (sym keys_are) (may_link next next_is)));
+      may = subst (λ s. MayLink (state_of log) s (suc s) pen.key asked.ticket next asked.keys.numbers (first asked.behind.numbers)) (sym segment_is)
+          (subst (λ n. MayLink (state_of log) segment (suc segment) pen.key n next asked.keys.numbers (first asked.behind.numbers)) (sym ticket_is)
+          (subst (λ ns. MayLink (state_of log) segment (suc segment) pen.key ticket next ns (first asked.behind.numbers)) (sym keys_are)
+          (subst (λ n. MayLink (state_of log) segment (suc segment) pen.key ticket next keys n) (sym behind_is) (may_link next next_is))));
     }
 
     -- it was linked
-    module _ (new : List (Note K V S)) (next : ℕ) (joins : JoinsRow eq hash place next pen.key (ArrayLinked ticket segment (Some (suc segment)) keys) log new) where
+    module _ (new : List (Note K V S)) (next : ℕ) (joins : JoinsRow eq hash place next pen.key (ArrayLinked ticket segment (Some (suc segment)) keys after_them.key) log new) where
       abbrev found : List (Note K V S)
       found = joins.leaves.writes.log
 
       abbrev note : Note K V S
-      note = ArrayLinked ticket segment (Some (suc segment)) keys
+      note = ArrayLinked ticket segment (Some (suc segment)) keys after_them.key
 
       found_begins : IsPrefix old found
       found_begins = prefix_through old log found begins joins.leaves.writes.begins
@@ -178,22 +191,26 @@ module _ {K V S : Type 0} (eq : K → K → Bool) (hash : S → K → ℕ) (plac
       abbrev found_kept : IsKept eq hash place found
       found_kept = kept_as eq hash place t found found_log
 
-      ready : IsReady (state_of found) segment pen.key ticket next keys
+      ready : IsReady (state_of found) segment (suc segment) pen.key ticket next keys after_them.key
       ready = joins.ready
 
       state_is : state_of new ≡ after {S = S} (state_of found) note
       state_is = ap state_of joins.leaves.writes.more ∙ state_more unopened found note
 
-      nothing : (state_of found).links segment ≡ []
-      nothing = unlinked (state_of found) (good_now eq hash place found found_kept).linked next segment ready.free
+      nothing : slice_get ((state_of found).links segment) 0 ≡ None
+      nothing = unlinked (state_of found) (good_now eq hash place found found_kept).linked next segment 0 (suc segment)
+          (first_rooted eq hash place t found found_log segment below).within refl ready.free
+
+      then_keys : (state_of new).arrays ticket ≡ keys
+      then_keys = ap (λ s. s.arrays ticket) state_is ∙ keys_here S (state_of found) ticket segment (Some (suc segment)) keys after_them.key ready.made
 
       follows : Follows segment ticket keys new
       follows = record {
         there = ap (λ s. slice_get (s.links segment) 0) state_is
-            ∙ (ap (λ xs. slice_get xs 0) (links_here S (state_of found) ticket segment (Some (suc segment)) keys ready.made)
-            ∙ ap (λ xs. slice_get (xs ++ ticket ∷ []) 0) nothing);
-        words = λ i k at. ap (λ s. slice_get (s.arrays ticket) i) state_is
-            ∙ (ap (λ xs. slice_get xs i) (keys_here S (state_of found) ticket segment (Some (suc segment)) keys ready.made) ∙ at);
+            ∙ (ap (λ xs. slice_get xs 0) (links_here S (state_of found) ticket segment (Some (suc segment)) keys after_them.key ready.made)
+            ∙ first_more ((state_of found).links segment) ticket nothing);
+        words = λ i k at. ap (λ xs. slice_get xs i) then_keys ∙ at;
+        long = ap (λ xs. length xs) then_keys;
       }
 
       linked_effect : (w : WantsLink eq hash place t.hasher t.segments segment (length keys) found) →
@@ -202,8 +219,8 @@ module _ {K V S : Type 0} (eq : K → K → Bool) (hash : S → K → ℕ) (plac
       linked_effect w = subst (λ l. EffectAll eq (hash t.hasher) (keys_of (place t.hasher t.segments) (state_of found) segment) w.key (access_of w.call)
           (seen.Linked ticket (length keys)) (numbered ticket (memory_of (state_of found) segment)) (numbered (suc ticket) (memory_of (state_of l) segment)))
           (sym joins.leaves.writes.more)
-          (linking_effect eq hash place divided found found_kept (cells_of (state_of found)) refl segment w.size w.kept w.key w.call w.stands
-          pen.key ticket next keys ready w.count_is)
+          (linking_effect eq hash place divided found found_kept (cells_of (state_of found)) refl segment (suc segment) w.size w.kept w.key w.call w.stands
+          pen.key ticket next keys after_them.key ready w.count_is)
 
       pub linked_so : Links eq hash place t segment old new ticket keys
       linked_so = record {
@@ -238,17 +255,21 @@ module _ {K V S : Type 0} (eq : K → K → Bool) (hash : S → K → ℕ) (plac
       begins_new : IsPrefix old new
       begins_new = prefix_through old log new begins sees.begins
 
+      is_other : other ≢ no_next segment (suc segment)
+      is_other same = is_some (same ∙ none_first segment)
+
       pub there_so : IsThere eq hash place t segment old new other (length keys)
       there_so = record {
         there =
             let v = link_wanted old new new_log begins_new some segment (length words) wants in
-            at_link eq (hash t.hasher) (place t.hasher t.segments) (state_of new) (entries_of new) (good_now eq hash place new new_kept)
-            segment v.size v.kept v.key v.call v.stands next other names_other is_some;
+            let good = good_now eq hash place new new_kept in
+            let at = at_link eq (hash t.hasher) (place t.hasher t.segments) (state_of new) (entries_of new) good
+            segment (suc segment) v.size v.kept v.key v.call v.stands next other names_other is_other in
+            let one = place_one (state_of new) good.linked segment at.0 0 (suc segment) v.stands.within at.1 refl in
+            subst (λ p. slice_get ((state_of new).links segment) p ≡ Some other) one at.2;
         wanted = link_wanted old new new_log begins_new some segment (length keys) (wanted_as (length keys) long);
-        effect = λ w. subst (λ n. EffectAll eq (hash t.hasher) (keys_of (place t.hasher t.segments) (state_of new) segment) w.key (access_of w.call)
-            (seen.Linked other n) (memory_of (state_of new) segment) (memory_of (state_of new) segment)) (sym w.count_is)
-            (link_there eq (hash t.hasher) (place t.hasher t.segments) (state_of new) (entries_of new) (good_now eq hash place new new_kept)
-            segment w.size w.kept w.key w.call w.stands next other names_other is_some);
+        effect = λ w. link_there eq (hash t.hasher) (place t.hasher t.segments) (state_of new) (entries_of new) (good_now eq hash place new new_kept)
+            segment (suc segment) w.size w.kept w.key w.call w.stands next other names_other is_other;
       }
 
   -- what became of a row that was to be linked, by who had seen less
@@ -268,6 +289,19 @@ module _ {K V S : Type 0} (eq : K → K → Bool) (hash : S → K → ℕ) (plac
   }
   links_sooner old mid new begins segment array ks (link.Open index) l = l
   links_sooner old mid new begins segment array ks (link.Length size) l = l
+
+  -- what became of a word that was to be copied, by who had seen less
+  pub copies_sooner : (old mid new : List (Note K V S)) → IsPrefix old mid → (segment array index : ℕ) (to : Word) (set : Bool) →
+      Copies eq hash place t segment mid new array index to set → Copies eq hash place t segment old new array index to set
+  copies_sooner old mid new begins segment array index to set c = record {
+    found = c.found;
+    begins = prefix_through old mid c.found begins c.begins;
+    goes_on = c.goes_on;
+    was = c.was;
+    is = c.is;
+    wanted = c.wanted;
+    effect = c.effect;
+  }
 
   -- a word that is copied
   module _ (old log : List (Note K V S)) (x : IsLogOf eq hash place t log) (begins : IsPrefix old log) (segment ticket index : ℕ) (to : Word)

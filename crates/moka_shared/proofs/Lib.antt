@@ -24,3 +24,5 @@ pub mod Rowing
 pub mod Joining
 pub mod Walking
 pub mod Sealing
+pub mod Swung
+pub mod Laid

@@ -1,21 +1,24 @@
 -- What a load of a bucket reads.
-use Rattle.std.proofs.Common.{◌≡◌, ℕ, ◌+◌, ◌*◌, ◌<◌, Bool, List, [], ◌∷◌, ◌++◌, length, Some, suc, refl, sym, ap, subst, ◌∙◌, arith}
+use Rattle.std.proofs.Common.{◌≡◌, ℕ, ◌+◌, ◌*◌, ◌<◌, Bool, false, List, [], ◌∷◌, ◌++◌, length, Some, suc, refl, sym, ap, subst, ◌∙◌, arith}
 use Rattle.std.specs.List.{slice_get}
 use mathlib.Core.List.{IsPrefix}
 use Rattle.moka_words.specs.declared.words.Word.{Word}
-use Rattle.moka_words.specs.Words.{node_of, word_at}
+use Rattle.moka_words.specs.Words.{is_sealed, node_of, word_at}
 use Rattle.moka_words.specs.Arrays.{bucket_at}
+use Rattle.moka_growth.specs.Fits.{HasBeenRoot}
+use Rattle.moka_growth.proofs.Mapped.{bare_is_root}
+use Rattle.moka_pairs.proofs.Names.{agrees_now}
 use Rattle.moka_history.specs.declared.note.Note.{Note}
 use Rattle.moka_history.specs.declared.note.Note.TheVariants.{Opened}
-use Rattle.moka_history.specs.States.{words_in}
+use Rattle.moka_history.specs.States.{memory_of, words_in}
 use Rattle.moka_history.specs.Logs.{entries_of, state_of}
 use Rattle.moka_history.specs.Cells.{cells_of, number_of}
-use Rattle.moka_history.specs.Rules.{IsFront, IsGood, IsKept, IsOpenedFor, IsSameOrSealed, Lasts}
+use Rattle.moka_history.specs.Rules.{IsFront, IsGood, IsKept, IsOpenedFor, IsRooted, IsSameOrSealed, Lasts, keys_of}
 use Rattle.moka_history.specs.Keeping.{IsSmall}
-use Rattle.moka_history.proofs.Fronts.{cells_now, row_now, words_have_pairs}
+use Rattle.moka_history.proofs.Fronts.{cells_now, good_now, length_now, row_now, segments_are, words_have_pairs}
 use Rattle.moka_history.proofs.Lists.{prefix_through}
 use Rattle.moka_shared.specs.Hashing.{segment_of}
-use Rattle.moka_shared.specs.Probing.{GoesOn, IsLogOf, Loads, ReadsAt, ReadsNode}
+use Rattle.moka_shared.specs.Probing.{GoesOn, IsFirstRoot, IsLogOf, Loads, ReadsAt, ReadsNode}
 use Rattle.moka_shared.specs.Steps.{Sees}
 use Rattle.moka_shared.specs.Tables.{Table}
 
@@ -54,9 +57,9 @@ module _ {K V S : Type 0} (eq : K → K → Bool) (hash : S → K → ℕ) (plac
         (subst (λ s. Lasts eq (place s x.kept.segments) (state_of front) (state_of next)) same.2 (x.kept.lasts front next at begins))
 
     pub still_as : (front next : List (Note K V S)) → IsFront front next → IsPrefix next log → length (entries_of next) ≡ length (entries_of front) →
-        (i index : ℕ) → i < t.segments →
-        IsSameOrSealed (word_at (words_in (state_of front) (suc i)) index) (word_at (words_in (state_of next) (suc i)) index)
-    still_as front next at begins equal i index low = x.kept.still front next at begins equal i index (subst (λ n. i < n) (sym same.0) low)
+        (i a index : ℕ) → IsRooted (state_of front) i a →
+        IsSameOrSealed (word_at (words_in (state_of front) a) index) (word_at (words_in (state_of next) a) index)
+    still_as = x.kept.still
 
     -- it is kept as one of the table
     abbrev pub kept_as : IsKept eq hash place log
@@ -71,7 +74,26 @@ module _ {K V S : Type 0} (eq : K → K → Bool) (hash : S → K → ℕ) (plac
       seals = x.kept.seals;
     }
 
+    -- the first array of a segment is its root, or was it
+    pub first_rooted : (segment : ℕ) → segment < t.segments → IsRooted (state_of log) segment (suc segment)
+    first_rooted segment below =
+        let low = subst (λ n. segment < n) (sym (segments_are eq hash place log kept_as)) below in
+        record { within = low; rooted = record { place = 0; before = (good_now eq hash place log kept_as).linked.some segment low; there = refl } }
+
+    pub first_was : (segment : ℕ) → segment < t.segments → HasBeenRoot (memory_of (state_of log) segment) (suc segment)
+    first_was segment below = (first_rooted segment below).rooted
+
     module _ (segment index : ℕ) (below : segment < t.segments) (inside : index < t.size) where
+      -- it is the root where one of its words isn't sealed
+      pub bare_first : is_sealed (word_at (words_in (state_of log) (suc segment)) index) ≡ false → IsFirstRoot segment log
+      bare_first bare =
+          let good = good_now eq hash place log kept_as in
+          let low = (first_rooted segment below).within in
+          let long = length_now eq hash place log kept_as segment below in
+          let known = keys_of (place t.hasher t.segments) (state_of log) segment in
+          bare_is_root (memory_of (state_of log) segment) (memory_of (state_of log) segment) (good.sound segment low known (agrees_now known))
+          (suc segment) index (first_was segment below) (omega (arith, inside, long)) bare
+
       pub row_is : slice_get ((state_of log).arrays (suc segment)) index ≡ Some (1 + (segment * t.size + index))
       row_is = row_now eq hash place log kept_as segment below index inside ∙ ap Some (omega arith)
 
@@ -90,7 +112,7 @@ module _ {K V S : Type 0} (eq : K → K → Bool) (hash : S → K → ℕ) (plac
         (row_is new new_log segment index below inside)).1)
 
     read_small : IsSmall read
-    read_small n named = (words_have_pairs eq hash place new (kept_as new new_log) segment below index n named).3
+    read_small n named = (words_have_pairs eq hash place new (kept_as new new_log) segment (suc segment) (first_rooted new new_log segment below) index n named).3
 
     pub loaded : (word : Word) → ((w : Word) → IsSmall w → found ≡ number_of w → word ≡ w) → Loads eq hash place t segment index word old new
     loaded word told =
@@ -126,6 +148,7 @@ module _ {K V S : Type 0} (eq : K → K → Bool) (hash : S → K → ℕ) (plac
   pub pair_read : (log : List (Note K V S)) → IsLogOf eq hash place t log → (h n : ℕ) → segment_of t.segments h < t.segments → ReadsNode t h n log →
       (p : K × V) × ((state_of log).pairs n ≡ Some p)
   pair_read log x h n below reads =
-      let pair = words_have_pairs eq hash place log (kept_as log x) (segment_of t.segments h) below (bucket_at t.size h reads.passed) n
+      let pair = words_have_pairs eq hash place log (kept_as log x) (segment_of t.segments h) (suc (segment_of t.segments h)) (first_rooted log x (segment_of t.segments h) below)
+      (bucket_at t.size h reads.passed) n
       (ap node_of reads.reads.there ∙ reads.names) in
       (pair.0, pair.1)

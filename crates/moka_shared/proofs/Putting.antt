@@ -1,5 +1,5 @@
 -- A pair that is put, and a tombstone, are changes of the key.
-use Rattle.std.proofs.Common.{◌≡◌, ℕ, ◌^◌, ◌<◌, ◌≤◌, ◌==◌, Bool, true, false, List, Option, Some, None, inl, inr, refl, sym, ap, subst, ◌∙◌, arith}
+use Rattle.std.proofs.Common.{◌≡◌, ℕ, ◌^◌, ◌<◌, ◌≤◌, ◌==◌, Bool, true, false, List, Option, Some, None, inl, inr, suc, refl, sym, ap, subst, ◌∙◌, arith}
 use Rattle.std.proofs.lemmas.Bool.{cases_lt, eq-eqb}
 use Rattle.std.specs.Option.{option_map, option_map_or}
 use mathlib.Core.List.{IsPrefix}
@@ -21,7 +21,7 @@ use Rattle.moka_history.proofs.Lists.{no_item, one_item}
 use Rattle.moka_shared.specs.Changes.{CanChange, entry_put, entry_taken}
 use Rattle.moka_shared.specs.Probing.{EndsAt, IsLogOf, own_keys, own_words}
 use Rattle.moka_shared.specs.Tables.{Table}
-use Rattle.moka_shared.proofs.Loading.{kept_as, opened_some}
+use Rattle.moka_shared.proofs.Loading.{first_rooted, kept_as, opened_some}
 use Rattle.moka_shared.proofs.Probed.{known_is, own_at, pair}
 
 no_node : {n : ℕ} → None ≡ Some n → ⊥
@@ -46,7 +46,8 @@ module _ {K V S : Type 0} (eq : K → K → Bool) (hash : S → K → ℕ) (plac
     more_keys = segment_grows (λ k. place t.hasher t.segments k == (own_at place t key)) (state_of log).pairs (state_of front).pairs more_pairs
 
     from_small : IsSmall from
-    from_small n at = (words_have_pairs eq hash place front (kept_as eq hash place t front y) (own_at place t key) below index n (ap node_of ends.there ∙ at)).3
+    from_small n at = (words_have_pairs eq hash place front (kept_as eq hash place t front y) (own_at place t key) (suc (own_at place t key))
+        (first_rooted eq hash place t front y (own_at place t key) below) index n (ap node_of ends.there ∙ at)).3
 
     -- the node of a word that was the key's has the key
     own_still : (n : ℕ) → node_of (word_at (own_words place t key front) index) ≡ Some n → own_by eq (own_keys place t key front) key n ≡ true →

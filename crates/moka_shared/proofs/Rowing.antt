@@ -10,16 +10,16 @@ use Rattle.moka_history.specs.declared.note.Note.{Note}
 use Rattle.moka_history.specs.States.{Plan, Row}
 use Rattle.moka_history.specs.Logs.{entries_of, state_of}
 use Rattle.moka_history.specs.Moving.{Added, Adds, AnnouncesArray, BringsHome, HasCell, IsBrought, IsHome, Joins, Seals, WasReady}
-use Rattle.moka_history.specs.Rules.{IsFront, IsKept, IsRowStill}
+use Rattle.moka_history.specs.Rules.{IsFront, IsKept, IsOfArray, IsRowStill}
 use Rattle.moka_history.proofs.Fronts.{lasts_now}
 use Rattle.moka_history.proofs.Lists.{more_get, no_item, one_item, prefix_through}
-use Rattle.moka_history.proofs.Owners.{row_is_row, row_not_bucket}
+use Rattle.moka_history.proofs.Owners.{row_is_row}
 use Rattle.moka_history.proofs.Resting.{row_through}
 use Rattle.moka_shared.specs.declared.answers.Missed.{Missed}
 use Rattle.moka_shared.specs.declared.answers.Missed.TheVariants as missed
 use Rattle.moka_shared.specs.Changes.{IsUndrawn}
 use Rattle.moka_shared.specs.Links.{JoinsRow}
-use Rattle.moka_shared.specs.Rows.{AreRow, HoldsTicket, IsAnnounced, IsOfRow, Leaves}
+use Rattle.moka_shared.specs.Rows.{AreRow, HoldsTicket, IsAnnounced, IsBehind, IsOfRow, Leaves}
 use Rattle.moka_shared.specs.Probing.{GoesOn, IsLogOf}
 use Rattle.moka_shared.specs.Tables.{Table, word_named}
 use Rattle.moka_shared.proofs.Loading.{opened_more}
@@ -128,7 +128,7 @@ module _ {K V S : Type 0} (eq : K → K → Bool) (hash : S → K → ℕ) (plac
         by (inl (c, at, still)) =
             let is = one_item (sym at ∙ (ap (slice_get (state_of log).cells) same ∙ away)) in
             false≢true (sym (row_is_row is).1 ∙ still refl)
-        by (inr (w, at, own)) = row_not_bucket (one_item (sym away ∙ (ap (slice_get (state_of log).cells) (sym same) ∙ at)))
+        by (inr (o, at, of_array, own)) = subst IsOfArray (one_item (sym at ∙ (ap (slice_get (state_of log).cells) same ∙ away))) of_array
 
     pub row_lasts : (b : Book) (ticket : ℕ) (words : List Named) → AreRow b ticket words front → AreRow b ticket words log
     row_lasts b ticket words are = record {
@@ -147,6 +147,12 @@ module _ {K V S : Type 0} (eq : K → K → Bool) (hash : S → K → ℕ) (plac
         let lasts = lasts_now eq hash place log kept front is_front in
         let (b, there, home) = lasts.announced pen.key ticket x.home x.there in
         record { home = b; nib = x.nib; there = there; plan_is = lasts.plans ticket plan x.plan_is }
+
+    pub behind_lasts : (b : Book) (ticket : ℕ) (words : List Named) (behind : Named) → IsBehind b ticket words behind front → IsBehind b ticket words behind log
+    behind_lasts b ticket words behind are = record {
+      one = record { named = are.one.named; home = row_still behind.key ticket are.one.home };
+      apart = are.apart;
+    }
 
 -- no words
 pub no_row : {K V S : Type 0} (b : Book) (ticket : ℕ) (words : List Named) (log : List (Note K V S)) → words ≡ [] → AreRow b ticket words log
@@ -189,6 +195,18 @@ pub row_grows : {K V S : Type 0} (eq : K → K → Bool) (hash : S → K → ℕ
 row_grows eq hash place front log some begins kept b ticket words w are is other =
     row_more b ticket words w log (row_lasts eq hash place front log some begins kept b ticket words are) is
     (λ i v at. other v.key ticket (are.each i v at).home)
+
+-- and the one behind them is none of these
+pub behind_grows : {K V S : Type 0} (eq : K → K → Bool) (hash : S → K → ℕ) (place : S → ℕ → K → ℕ) (front log : List (Note K V S)) (some : 0 < length front)
+    (begins : IsPrefix front log) (kept : IsKept eq hash place log) (b : Book) (ticket : ℕ) (words : List Named) (behind w : Named) →
+    IsBehind b ticket words behind front → ((k n : ℕ) → IsRowStill (state_of front) k n true → k ≢ w.key) → IsBehind b ticket (words ++ w ∷ []) behind log
+behind_grows eq hash place front log some begins kept b ticket words behind w are other = record {
+  one = (behind_lasts eq hash place front log some begins kept b ticket words behind are).one;
+  apart = λ i v at same. elim (more_get words w i v at) [
+    | inl old ↦ are.apart i v old same
+    | inr last ↦ other behind.key ticket are.one.home (sym same ∙ ap (λ x. x.key) last.1)
+  ];
+}
 
 -- why no ticket was drawn, by who had seen less
 pub undrawn_since : {K V S : Type 0} (old mid new : List (Note K V S)) → (state_of old).last ≤ (state_of mid).last → (m : Missed) → IsUndrawn mid new m →

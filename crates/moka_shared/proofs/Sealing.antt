@@ -13,7 +13,8 @@ use Rattle.moka_growth.specs.Growing.{seal_of}
 use Rattle.moka_growth.proofs.Exchanging.{bucket_within, seal_sealed}
 use Rattle.moka_history.specs.declared.note.Note.{Note}
 use Rattle.moka_history.specs.declared.note.Note.TheVariants.{Sealed}
-use Rattle.moka_history.specs.States.{after, unopened, word_in, words_in}
+use Rattle.moka_growth.specs.Fits.{HasBeenRoot}
+use Rattle.moka_history.specs.States.{after, memory_of, unopened, word_in, words_in}
 use Rattle.moka_history.specs.Logs.{state_of}
 use Rattle.moka_history.specs.Cells.{number_of}
 use Rattle.moka_history.specs.Keeping.{IsSmall}
@@ -34,7 +35,7 @@ use Rattle.moka_shared.specs.Probing.{IsLogOf, Loads, ReadsAt}
 use Rattle.moka_shared.specs.Rows.{IsMetThere, Leaves, MaySeal, SealsSo}
 use Rattle.moka_shared.specs.Steps.{Sees}
 use Rattle.moka_shared.specs.Tables.{Table}
-use Rattle.moka_shared.proofs.Loading.{found_is, kept_as, opened_more, opened_some, row_is}
+use Rattle.moka_shared.proofs.Loading.{first_rooted, first_was, found_is, kept_as, opened_more, opened_some, row_is}
 
 -- the number of an array, as it is reckoned
 pub stands_one_up : {K V S : Type 0} (word : Word) (segment index : ℕ) (log : List (Note K V S)) → IsSealedIn word (suc segment) index log →
@@ -73,8 +74,8 @@ module _ {K V S : Type 0} (eq : K → K → Bool) (hash : S → K → ℕ) (plac
     within = let long = length_now eq hash place log (kept_as eq hash place t log x) segment below in omega (arith, inside, long)
 
     is_set : word_at (words_in (state_of log) (suc segment)) index ≢ Unset
-    is_set = (array_is eq (hash t.hasher) (place t.hasher t.segments) (state_of log) _ (good_now eq hash place log (kept_as eq hash place t log x)) segment
-        (subst (λ n. segment < n) (sym (segments_are eq hash place log (kept_as eq hash place t log x))) below)).set index within
+    is_set = (array_is eq (hash t.hasher) (place t.hasher t.segments) (state_of log) _ (good_now eq hash place log (kept_as eq hash place t log x)) segment (suc segment)
+        (first_rooted eq hash place t log x segment below)).set index within
 
     -- each word of the array is set, so one that is shut is sealed
     pub shut_stands : (word : Word) → Word_there word → IsShut word → IsSealedIn word (suc segment) index log
@@ -89,7 +90,7 @@ module _ {K V S : Type 0} (eq : K → K → Bool) (hash : S → K → ℕ) (plac
         some = opened_some t.segments t.size t.hasher log x.opened;
         segment = segment;
         within = subst (λ n. segment < n) (sym (segments_are eq hash place log (kept_as eq hash place t log x))) below;
-        rooted = record { place = 0; before = omega arith; there = ap Some (sym array_is_suc) };
+        rooted = subst (HasBeenRoot (memory_of (state_of log) segment)) (sym array_is_suc) (first_was eq hash place t log x segment below);
         there =
             ap (λ a. slice_get ((state_of log).arrays a) asked.index) array_is_suc
             ∙ (ap (λ i. slice_get ((state_of log).arrays (suc segment)) i) index_is
@@ -147,7 +148,8 @@ module _ {K V S : Type 0} (eq : K → K → Bool) (hash : S → K → ℕ) (plac
 
         pub met_there : is_sealed met ≡ false → IsMetThere (suc segment) index log met new
         met_there bare = elim (entry_between eq hash place new (kept_as eq hash place t new new_log) log
-            (record { some = opened_some t.segments t.size t.hasher log x.opened; begins = loads.goes_on.begins }) segment index below differs) [
+            (record { some = opened_some t.segments t.size t.hasher log x.opened; begins = loads.goes_on.begins }) segment (suc segment) index
+            (first_rooted eq hash place t log x segment below) differs) [
               | inl sealed ↦ absurd (false≢true (sym bare ∙ (ap is_sealed (sym loads.there) ∙ sealed)))
               | inr came ↦ record { front = log; begins = prefix_self log; entry = came.0; there = came.1; met = loads.there }
             ]

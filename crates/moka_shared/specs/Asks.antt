@@ -1,8 +1,9 @@
 -- The notes that steps ask for.
 use Rattle.std.specs.Prelude.{ℕ, suc, Option, Some}
 use Rattle.std.specs.Option.{option_map}
+use Rattle.boxcar.specs.Table.{first}
 use Rattle.moka_history.specs.declared.note.Note.{Note}
-use Rattle.moka_history.specs.declared.note.Note.TheVariants.{Announced, Changed, ArrayAnnounced, ArrayLinked, CellAdded, CellHome, Copied, Sealed}
+use Rattle.moka_history.specs.declared.note.Note.TheVariants.{Announced, Changed, ArrayAnnounced, ArrayLinked, CellAdded, CellHome, Copied, Sealed, Swung}
 use Rattle.moka_shared.specs.declared.asked.Drawn.{Drawn}
 use Rattle.moka_shared.specs.declared.asked.Brought.{Brought}
 use Rattle.moka_shared.specs.declared.asked.Copying.{Copying}
@@ -10,6 +11,7 @@ use Rattle.moka_shared.specs.declared.asked.Exchange.{Exchange}
 use Rattle.moka_shared.specs.declared.asked.Linking.{Linking}
 use Rattle.moka_shared.specs.declared.asked.Planned.{Planned}
 use Rattle.moka_shared.specs.declared.asked.Seal.{Seal}
+use Rattle.moka_shared.specs.declared.asked.Swinging.{Swinging}
 use denote.Ref.{Bor}
 
 -- the pair that lies behind these references
@@ -36,6 +38,10 @@ seal_note s = Sealed s.array s.index s.to
 
 abbrev pub link_note : {K V S : Type 0} → Linking → Note K V S
 link_note l = ArrayLinked l.ticket l.segment (Some (suc l.segment)) l.keys.numbers
+    (first l.behind.numbers)
 
 abbrev pub copy_note : {K V S : Type 0} → Copying → Note K V S
 copy_note c = Copied c.array c.index c.to
+
+abbrev pub swing_note : {K V S : Type 0} → Swinging → Note K V S
+swing_note s = Swung s.segment s.from s.to

@@ -12,3 +12,5 @@ pub mod Inserts
 pub mod Removals
 pub mod Rows
 pub mod Links
+pub mod Swings
+pub mod Fills

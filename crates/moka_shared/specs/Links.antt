@@ -3,6 +3,7 @@ use Rattle.std.specs.Prelude.{◌≡◌, ◌≢◌, ℕ, suc, Bool, false, nat_l
 use Rattle.std.specs.List.{slice_get}
 use mathlib.Core.List.{IsPrefix}
 use Rattle.logbook.specs.Pages.{Named}
+use Rattle.boxcar.specs.Table as tag
 use Rattle.moka_words.specs.declared.words.Word.{Word}
 use Rattle.moka_words.specs.declared.words.Word.TheVariants.{Unset}
 use Rattle.moka_words.specs.declared.accesses.Seen.TheVariants as seen
@@ -61,7 +62,8 @@ module _ {K V S : Type 0} (eq : K → K → Bool) (hash : S → K → ℕ) (plac
     pub hasher : S
     pub opened : IsOpenedFor segments first hasher log
     pub wants : WantsLink hasher segments asked.segment (length asked.keys.numbers) log
-    pub may : MayLink (state_of log) asked.segment own asked.ticket next asked.keys.numbers
+    pub may : MayLink (state_of log) asked.segment (suc asked.segment) own asked.ticket next
+        asked.keys.numbers (tag.first asked.behind.numbers)
 
   -- A word may be copied into the cell of this key.
   pub record MayCopy (bucket to : ℕ) (asked : Copying) (log : List (Note K V S)) : Type 0 where
@@ -101,12 +103,13 @@ abbrev pub IsOpenAt : {K V S : Type 0} → (segment index : ℕ) → List (Note 
 IsOpenAt segment index log =
     is_sealed (word_at (words_in (state_of log) (suc segment)) index) ≡ false
 
--- the array of this number follows the first one of the segment, and its words have these keys
+-- the array of this number follows the first one of the segment, and its words are those of these keys
 pub record Follows {K V S : Type 0} (segment array : ℕ) (keys : List ℕ) (log : List (Note K V S))
     : Type 0 where
   pub there : slice_get ((state_of log).links segment) 0 ≡ Some array
   pub words : (i k : ℕ) → slice_get keys i ≡ Some k →
       slice_get ((state_of log).arrays array) i ≡ Some k
+  pub long : length ((state_of log).arrays array) ≡ length keys
 
 module _ {K V S : Type 0} (eq : K → K → Bool) (hash : S → K → ℕ) (place : S → ℕ → K → ℕ)
     (t : Table S) (segment : ℕ) (old new : List (Note K V S)) where
@@ -132,8 +135,8 @@ module _ {K V S : Type 0} (eq : K → K → Bool) (hash : S → K → ℕ) (plac
     pub effect : (w : WantsLink eq hash place t.hasher t.segments segment count new) →
         EffectAll eq (hash t.hasher)
         (keys_of (place t.hasher t.segments) (state_of new) segment) w.key (access_of w.call)
-        (seen.Linked array count) (memory_of (state_of new) segment)
-        (memory_of (state_of new) segment)
+        (seen.Linked array (length (words_in (state_of new) array)))
+        (memory_of (state_of new) segment) (memory_of (state_of new) segment)
 
   -- what became of an array that was to be linked
   abbrev pub LinksSo : (array : ℕ) → (keys : List ℕ) → TryLink → Type 0

@@ -5,10 +5,11 @@ use Rattle.moka_words.specs.declared.words.Word.{Word}
 use Rattle.moka_words.specs.Words.{node_of, word_at}
 use Rattle.moka_words.specs.Arrays.{bucket_at}
 use Rattle.moka_words.specs.Later.{HasPassed}
+use Rattle.moka_words.specs.Effect.{root}
 use Rattle.moka_growth.specs.Fits.{IsOpen}
 use Rattle.moka_pairs.specs.Keys.{Agrees, own_by, own_for}
 use Rattle.moka_history.specs.declared.note.Note.{Note}
-use Rattle.moka_history.specs.States.{words_in}
+use Rattle.moka_history.specs.States.{memory_of, words_in}
 use Rattle.moka_history.specs.Logs.{state_of}
 use Rattle.moka_history.specs.Rules.{keys_of, IsKept, IsOpenedFor}
 use Rattle.moka_history.specs.Keeping.{IsSmall}
@@ -48,6 +49,10 @@ module _ {K V S : Type 0} (place : S → ℕ → K → ℕ) (t : Table S) (key :
   abbrev pub own_keys : ℕ → Option K
   own_keys = keys_of (place t.hasher t.segments) (state_of log) (place t.hasher t.segments key)
 
+-- the root of the segment is its first array
+abbrev pub IsFirstRoot : {K V S : Type 0} → (segment : ℕ) → List (Note K V S) → Type 0
+IsFirstRoot segment log = root (memory_of (state_of log) segment) ≡ Some (suc segment)
+
 module _ {K V S : Type 0} (eq : K → K → Bool) (place : S → ℕ → K → ℕ) (t : Table S) (key : K)
     (hash : ℕ) (log : List (Note K V S)) where
   -- a probe under the hash has passed so many buckets of other keys in the key's segment, whatever
@@ -66,7 +71,7 @@ module _ {K V S : Type 0} (eq : K → K → Bool) (place : S → ℕ → K → �
   -- what is known where it ended
   abbrev pub Ends : {N : Type 0} → Ended N → Type 0
   Ends (ended.At passed word shown) = EndsAt passed word
-  Ends ended.Full = HasProbed t.size
+  Ends ended.Full = HasProbed t.size × IsFirstRoot (place t.hasher t.segments key) log
   Ends (ended.Hidden number) = Unit {0}
   Ends (ended.Sealed passed word) = Unit {0}
 

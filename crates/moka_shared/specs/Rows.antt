@@ -1,5 +1,5 @@
 -- Rows of words for an array that is announced, and seals of words.
-use Rattle.std.specs.Prelude.{◌≡◌, ℕ, ◌+◌, ◌<◌, Bool, true, false, List, length, Some}
+use Rattle.std.specs.Prelude.{◌≡◌, ◌≢◌, ℕ, ◌+◌, ◌<◌, Bool, true, false, List, length, Some}
 use Rattle.std.specs.List.{slice_get}
 use mathlib.Core.List.{IsPrefix}
 use Rattle.logbook.specs.Pages.{Book, Named, Nib, may_write, nib}
@@ -78,6 +78,12 @@ pub record AreRow {K V S : Type 0} (b : Book) (ticket : ℕ) (words : List Named
   pub each : (i : ℕ) (w : Named) → slice_get words i ≡ Some w → IsOfRow b ticket w log
   pub differ : (i j : ℕ) (v w : Named) → slice_get words i ≡ Some v →
       slice_get words j ≡ Some w → v.key ≡ w.key → i ≡ j
+
+-- the word was made for the ticket's array too, and is none of these
+pub record IsBehind {K V S : Type 0} (b : Book) (ticket : ℕ) (words : List Named) (behind : Named)
+    (log : List (Note K V S)) : Type 0 where
+  pub one : IsOfRow b ticket behind log
+  pub apart : (i : ℕ) (w : Named) → slice_get words i ≡ Some w → w.key ≢ behind.key
 
 -- the pen writes the cell of the ticket, on which this array is announced; the ticket may be home
 pub record HoldsTicket {K V S : Type 0} (ticket : ℕ) (plan : Plan) (pen : Nib)

@@ -27,10 +27,10 @@ pub record AreWords (b : Book) (first count : ℕ) (words : List Named) : Type 0
   pub each : (i : ℕ) (w : Named) → slice_get words i ≡ Some w → w ≡ word_named b (first + i)
 
 -- The table's book begins with its note, its door is the first word, the next are the buckets, then
--- comes for each segment the word that names the array after its first one, and its shelf is for its
--- nodes.
+-- comes for each segment the word that names the array after its first one, then for each the word that
+-- names its root, and its shelf is for its nodes.
 pub record IsTable {K V S : Type 0} (t : Table S) (start : List (Note K V S)) (door : Named)
-    (buckets nexts : List Named) (owner : List ℕ) : Type 0 where
+    (buckets nexts roots : List Named) (owner : List ℕ) : Type 0 where
   pub begun : start ≡ Opened t.segments t.size t.hasher ∷ []
   pub some : 0 < t.segments
   pub power : IsPowerOfTwo t.size
@@ -38,4 +38,5 @@ pub record IsTable {K V S : Type 0} (t : Table S) (start : List (Note K V S)) (d
   pub door_is : door ≡ word_named t.book 0
   pub buckets_are : AreWords t.book 1 (t.segments * t.size) buckets
   pub nexts_are : AreWords t.book (1 + t.segments * t.size) t.segments nexts
+  pub roots_are : AreWords t.book (1 + t.segments * t.size + t.segments) t.segments roots
   pub owner_is : owner ≡ names_of t.book

@@ -105,3 +105,25 @@ pub enum TryLink {
     /// An array that follows has so many words.
     Length(usize),
 }
+
+/// What a pass answers that is to swing a segment's root.
+#[derive(Clone, Copy, PartialEq, Eq, Debug)]
+pub enum TrySwing {
+    /// The array is the root in place of the segment's first one.
+    Swung,
+    /// The array of this number is the root, by an earlier swing.
+    There(u64),
+    /// The word of this bucket isn't set yet.
+    Unset(usize),
+}
+
+/// What a pass answers that is to fill an array.
+#[derive(Clone, Copy, PartialEq, Eq, Debug)]
+pub enum TryFill {
+    /// Each of its words is set, by this caller or another one.
+    Filled,
+    /// The pass has to be made again.
+    Again(Missed),
+    /// Memory is wanting.
+    Memory,
+}

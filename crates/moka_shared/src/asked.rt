@@ -46,12 +46,13 @@ pub(crate) struct Seal {
     pub(crate) to: Word,
 }
 
-/// The link of an array: its ticket, its segment, and the keys of its words.
+/// The link of an array: its ticket, its segment, the keys of its words, and that of the word behind them.
 #[derive(Drop)]
 pub(crate) struct Linking {
     pub(crate) ticket: u64,
     pub(crate) segment: usize,
     pub(crate) keys: Tag,
+    pub(crate) behind: Tag,
 }
 
 /// The copy of a word.
@@ -60,4 +61,12 @@ pub(crate) struct Copying {
     pub(crate) array: u64,
     pub(crate) index: usize,
     pub(crate) to: Word,
+}
+
+/// The swing of a segment's root, from one array to another.
+#[derive(Clone, Copy)]
+pub(crate) struct Swinging {
+    pub(crate) segment: usize,
+    pub(crate) from: u64,
+    pub(crate) to: u64,
 }

@@ -1,6 +1,6 @@
 //! The book of a table's history.
 
-use crate::asked::{Brought, Copying, Drawn, Exchange, Linking, Planned, Seal};
+use crate::asked::{Brought, Copying, Drawn, Exchange, Linking, Planned, Seal, Swinging};
 use logbook::{Gain, Plain, Play, Rule};
 use moka_history::Note;
 use std::hash::{BuildHasher, Hash};
@@ -215,4 +215,24 @@ impl<K, V, S> Plain<Copying, Note<K, V, S>, u64> for CopyWord {
     ghost ask = { λ copying. copy_note copying };
 
     ghost state = { λ copying. None };
+}
+
+/// A step that swings a segment's root.
+pub struct SwingRoot;
+
+impl<K: Eq + Hash, V, S: BuildHasher> Play<Note<K, V, S>, u64> for SwingRoot {
+    ghost use Rattle.moka_history.specs.Moving.{Swings};
+    ghost use Rattle.moka_shared.specs.Hashing.{hash_in, place_in};
+
+    ghost then = { Swings K.eq (hash_in S.BuildHasher S.Hasher.Hasher K.hash_input)
+        (place_in S.BuildHasher S.Hasher.Hasher K.hash_input) };
+}
+
+impl<K, V, S> Plain<Swinging, Note<K, V, S>, u64> for SwingRoot {
+    ghost use Rattle.std.specs.Prelude.{None};
+    ghost use Rattle.moka_shared.specs.Asks.{swing_note};
+
+    ghost ask = { λ swinging. swing_note swinging };
+
+    ghost state = { λ swinging. None };
 }

@@ -1,5 +1,5 @@
-//! First steps of a table that grows: a row is made for a new array, and words are sealed. Nothing is
-//! linked yet, so the table stays in its arrays.
+//! First steps of a table that grows: a row is made for a new array, and words are sealed. The calls on
+//! keys stay in the first array of each segment.
 ghost use Rattle.std.specs.Prelude.{◌≡◌, [], ◌∷◌, ◌+◌, ◌<◌, ◌≤◌, false, true, length, suc, vec_capacity, IfErr, IfOk, IsSome, OnOk};
 ghost use mathlib.Core.List.{IsPrefix};
 ghost use Rattle.moka_history.specs.Entries.{IsLegal};
@@ -14,7 +14,7 @@ ghost use Rattle.moka_shared.specs.Looks.{IsSealedIn};
 ghost use Rattle.moka_shared.specs.Probing.{GoesOn, IsLogOf, Loads};
 ghost use Rattle.moka_shared.specs.declared.answers.Missed.TheVariants.{Lost};
 ghost use Rattle.moka_shared.specs.declared.answers.TrySeal.TheVariants.{Again, Sealed};
-ghost use Rattle.moka_shared.specs.Rows.{AreRow, HoldsTicket, IsAnnounced, IsNotOpened, IsMetThere, SealsSo, plan_for};
+ghost use Rattle.moka_shared.specs.Rows.{AreRow, HoldsTicket, IsAnnounced, IsBehind, IsNotOpened, IsMetThere, IsOfRow, SealsSo, plan_for};
 
 use crate::Fact;
 use crate::answers::{Missed, TrySeal, Unopened};
@@ -45,10 +45,11 @@ impl<K: Eq + Hash, V, S: BuildHasher, P: Fact<K, V>, L: Shelf<Node<K, V, S, P>>>
     L,
 > {
     /// Announces an array of so many words on the next ticket, which is to follow the segment's
-    /// array, and makes its words. Answers these as a row, with the ticket: they are unset, and part
-    /// of no array. `Memory` comes where there is none for the words, which is taken first; `Again`
-    /// where another caller draws the ticket meanwhile (`Missed::Ticket`), or where none is left
-    /// (`Missed::Spent`). Then this caller has drawn no ticket.
+    /// array, and makes its words, and one behind them, which is to name the array after it. Answers
+    /// these as a row, with the ticket: they are unset, and part of no array. `Memory` comes where there
+    /// is none for the words, which is taken first; `Again` where another caller draws the ticket
+    /// meanwhile (`Missed::Ticket`), or where none is left (`Missed::Spent`). Then this caller has drawn
+    /// no ticket.
     pub fn try_open_row(
         &self,
         alloc: Global,
@@ -73,6 +74,8 @@ impl<K: Eq + Hash, V, S: BuildHasher, P: Fact<K, V>, L: Shelf<Node<K, V, S, P>>>
         ensures row { IfOk result (λ row. AreRow self.now.book row.ticket row.words.items
             seat.new.front.log) }
         ensures count { IfOk result (λ row. length row.words.items ≡ size) }
+        ensures behind { IfOk result (λ row. IsBehind self.now.book row.ticket row.words.items
+            row.behind seat.new.front.log) }
         ensures pen { IfOk result (λ row. row.pen.book ≡ self.now.book) }
         ensures none { IfErr result (λ why. seat.new.drawn ≡ seat.old.drawn) }
         ensures again { IfErr result (IsNotOpened seat.old.front.log seat.new.front.log) }
@@ -153,18 +156,27 @@ impl<K: Eq + Hash, V, S: BuildHasher, P: Fact<K, V>, L: Shelf<Node<K, V, S, P>>>
         ensures holds { (plan : Plan) → IsAnnounced drawn.ticket plan drawn.pen.nib
             front.old.log → HoldsTicket drawn.ticket plan result.pen.nib front.new.log }
         ensures row { AreRow self.now.book drawn.ticket result.words.items front.new.log }
+        ensures behind { IsBehind self.now.book drawn.ticket result.words.items result.behind
+            front.new.log }
         ensures count { length result.words.items ≡ size }
     {
         let Ticketed { ticket, pen } = drawn;
-        let words = self.filled(front, ticket, words, size);
-        Row { ticket, words, pen }
+        let behind = make_word(front, &self.door, ticket);
+        let words = self.filled(front, ticket, &behind, words, size);
+        Row {
+            ticket,
+            words,
+            behind,
+            pen,
+        }
     }
 
-    // Makes so many words for the ticket's array: the first by the door, the others by the first.
+    // Makes so many words for the ticket's array, by the one behind them.
     fn filled(
         &self,
         front: &mut Seen<Note<K, V, S>, u64, Law>,
         ticket: u64,
+        behind: &Bucket<Note<K, V, S>, u64, Law>,
         mut words: Vec<Bucket<Note<K, V, S>, u64, Law>>,
         size: usize,
     ) -> Vec<Bucket<Note<K, V, S>, u64, Law>>
@@ -172,6 +184,7 @@ impl<K: Eq + Hash, V, S: BuildHasher, P: Fact<K, V>, L: Shelf<Node<K, V, S, P>>>
         requires log { IsLogOf K.eq (hash_in S.BuildHasher S.Hasher.Hasher K.hash_input)
             (place_in S.BuildHasher S.Hasher.Hasher K.hash_input) self.now front.old.log }
         requires planned { IsSome ((state_of front.old.log).plans ticket) }
+        requires behind { IsOfRow self.now.book ticket behind.now front.old.log }
         requires none { words.items ≡ [] }
         requires room { size ≤ vec_capacity words }
         ensures book { front.new.book ≡ front.old.book }
@@ -179,15 +192,12 @@ impl<K: Eq + Hash, V, S: BuildHasher, P: Fact<K, V>, L: Shelf<Node<K, V, S, P>>>
             (place_in S.BuildHasher S.Hasher.Hasher K.hash_input) self.now
             front.old.log front.new.log }
         ensures row { AreRow self.now.book ticket result.items front.new.log }
+        ensures behind { IsBehind self.now.book ticket result.items behind.now front.new.log }
         ensures count { length result.items ≡ size }
     {
-        if size == 0 {
-            return words;
-        }
-        words.push_reserved(make_word(front, &self.door, ticket));
-        let mut made = 1;
+        let mut made = 0;
         while made < size {
-            let word = make_word(front, &words[0], ticket);
+            let word = make_word(front, behind, ticket);
             words.push_reserved(word);
             made += 1;
         }
@@ -197,8 +207,8 @@ impl<K: Eq + Hash, V, S: BuildHasher, P: Fact<K, V>, L: Shelf<Node<K, V, S, P>>>
     /// Seals the word of this bucket of the segment's array, by one pass. Words may be sealed in
     /// any order. `Sealed` has the word that stands there for good, sealed by this caller or by
     /// another one; `Again` comes where another caller exchanges the word meanwhile
-    /// (`Missed::Lost`). A sealed word takes no pair any more, and no array can follow so far: a
-    /// call that comes to it answers `Missed::Sealed`.
+    /// (`Missed::Lost`). A sealed word takes no pair any more: a call that comes to it answers
+    /// `Missed::Sealed`.
     pub fn try_seal(
         &self,
         seat: &mut Seat<K, V, S, L::Look>,

@@ -5,7 +5,7 @@ mod answers;
 mod asked;
 mod book;
 mod change;
-mod fact;
+mod filling;
 mod front;
 mod growing;
 mod insert;
@@ -23,13 +23,17 @@ mod seat;
 mod seek;
 mod segments;
 mod standing;
+mod swinging;
+mod swings;
 mod table;
 mod tickets;
 mod words;
 
-pub use answers::{Missed, TryChange, TryGet, TryInsert, TryLink, TrySeal, Unopened};
+pub use answers::{
+    Missed, TryChange, TryFill, TryGet, TryInsert, TryLink, TrySeal, TrySwing, Unopened,
+};
 pub use book::Law;
-pub use fact::{Anything, Fact};
+pub use moka_facts::{Anything, Fact};
 pub use node::Node;
 pub use row::Row;
 pub use seat::Seat;

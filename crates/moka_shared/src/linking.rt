@@ -1,5 +1,5 @@
-//! Further steps of a table that grows: a row is linked as the array after a segment's first one, and
-//! words are copied into it. The first array stays the segment's root.
+//! Further steps of a table that grows: a row is linked as the array after a segment's first one, and a
+//! word is copied into it.
 ghost use Rattle.std.specs.Prelude.{◌≡◌, ℕ, ◌<◌, ◌≤◌, ◌^◌, Some, false, is_some, length, true, IfErr, IfOk};
 ghost use mathlib.Core.List.{IsPrefix};
 ghost use Rattle.moka_history.specs.Entries.{IsLegal};
@@ -11,7 +11,7 @@ ghost use Rattle.moka_shared.specs.Changes.{AreMade};
 ghost use Rattle.moka_shared.specs.Hashing.{hash_in, place_in};
 ghost use Rattle.moka_shared.specs.Links.{Copies, Follows, HasSealed, IsOpenAt, LinksSo, WantsCopy, WantsLink, keys_in};
 ghost use Rattle.moka_shared.specs.Probing.{GoesOn, IsLogOf};
-ghost use Rattle.moka_shared.specs.Rows.{AreRow, HoldsTicket, plan_for};
+ghost use Rattle.moka_shared.specs.Rows.{AreRow, HoldsTicket, IsBehind, plan_for};
 
 use crate::Fact;
 use crate::answers::TryLink;
@@ -54,6 +54,15 @@ fn stores(word: Word) -> usize
     }
 }
 
+/// The key of a word.
+pub struct Key;
+
+impl<K: Eq + Hash, V, S: BuildHasher> Names<Bucket<Note<K, V, S>, u64, Law>> for Key {
+    ghost use Rattle.std.specs.Prelude.{[], ◌∷◌};
+
+    ghost numbers = { λ word. word.key ∷ [] };
+}
+
 /// The keys of words.
 pub struct Keys;
 
@@ -85,6 +94,8 @@ impl<K: Eq + Hash, V, S: BuildHasher, P: Fact<K, V>, L: Shelf<Node<K, V, S, P>>>
         requires pen { row.old.pen.book ≡ self.now.book }
         requires row { AreRow self.now.book row.old.ticket row.old.words.items
             seat.old.front.log }
+        requires behind { IsBehind self.now.book row.old.ticket row.old.words.items row.old.behind
+            seat.old.front.log }
         requires announced { HoldsTicket row.old.ticket
             (plan_for segment (length row.old.words.items)) row.old.pen.nib seat.old.front.log }
         ensures seat { seat.new.front.book ≡ self.now.book }
@@ -95,7 +106,13 @@ impl<K: Eq + Hash, V, S: BuildHasher, P: Fact<K, V>, L: Shelf<Node<K, V, S, P>>>
         ensures made { AreMade seat.old.mine.numbers (entries_of seat.old.front.log)
             → AreMade seat.new.mine.numbers (entries_of seat.new.front.log) }
         ensures row { (row.new.ticket ≡ row.old.ticket) × (row.new.words ≡ row.old.words)
-            × (row.new.pen.book ≡ row.old.pen.book) }
+            × (row.new.behind ≡ row.old.behind) × (row.new.pen.book ≡ row.old.pen.book) }
+        ensures words { AreRow self.now.book row.old.ticket row.old.words.items
+            seat.new.front.log }
+        ensures behind { IsBehind self.now.book row.old.ticket row.old.words.items row.old.behind
+            seat.new.front.log }
+        ensures announced { HoldsTicket row.old.ticket
+            (plan_for segment (length row.old.words.items)) row.old.pen.nib seat.new.front.log }
         ensures links { LinksSo K.eq (hash_in S.BuildHasher S.Hasher.Hasher K.hash_input)
             (place_in S.BuildHasher S.Hasher.Hasher K.hash_input) self.now segment
             seat.old.front.log seat.new.front.log row.old.ticket (keys_in row.old.words.items)
@@ -162,6 +179,8 @@ impl<K: Eq + Hash, V, S: BuildHasher, P: Fact<K, V>, L: Shelf<Node<K, V, S, P>>>
             self.now.size stored front.old.log }
         requires pen { row.old.pen.book ≡ self.now.book }
         requires row { AreRow self.now.book row.old.ticket row.old.words.items front.old.log }
+        requires behind { IsBehind self.now.book row.old.ticket row.old.words.items row.old.behind
+            front.old.log }
         requires announced { HoldsTicket row.old.ticket
             (plan_for segment (length row.old.words.items)) row.old.pen.nib front.old.log }
         ensures book { front.new.book ≡ front.old.book }
@@ -169,7 +188,7 @@ impl<K: Eq + Hash, V, S: BuildHasher, P: Fact<K, V>, L: Shelf<Node<K, V, S, P>>>
             (place_in S.BuildHasher S.Hasher.Hasher K.hash_input) self.now
             front.old.log front.new.log }
         ensures row { (row.new.ticket ≡ row.old.ticket) × (row.new.words ≡ row.old.words)
-            × (row.new.pen.book ≡ row.old.pen.book) }
+            × (row.new.behind ≡ row.old.behind) × (row.new.pen.book ≡ row.old.pen.book) }
         ensures links { LinksSo K.eq (hash_in S.BuildHasher S.Hasher.Hasher K.hash_input)
             (place_in S.BuildHasher S.Hasher.Hasher K.hash_input) self.now segment
             front.old.log front.new.log row.old.ticket (keys_in row.old.words.items) result }
@@ -197,6 +216,8 @@ impl<K: Eq + Hash, V, S: BuildHasher, P: Fact<K, V>, L: Shelf<Node<K, V, S, P>>>
             self.now.segments segment (length row.old.words.items) front.old.log }
         requires pen { row.old.pen.book ≡ self.now.book }
         requires row { AreRow self.now.book row.old.ticket row.old.words.items front.old.log }
+        requires behind { IsBehind self.now.book row.old.ticket row.old.words.items row.old.behind
+            front.old.log }
         requires announced { HoldsTicket row.old.ticket
             (plan_for segment (length row.old.words.items)) row.old.pen.nib front.old.log }
         ensures book { front.new.book ≡ front.old.book }
@@ -204,17 +225,19 @@ impl<K: Eq + Hash, V, S: BuildHasher, P: Fact<K, V>, L: Shelf<Node<K, V, S, P>>>
             (place_in S.BuildHasher S.Hasher.Hasher K.hash_input) self.now
             front.old.log front.new.log }
         ensures row { (row.new.ticket ≡ row.old.ticket) × (row.new.words ≡ row.old.words)
-            × (row.new.pen.book ≡ row.old.pen.book) }
+            × (row.new.behind ≡ row.old.behind) × (row.new.pen.book ≡ row.old.pen.book) }
         ensures links { LinksSo K.eq (hash_in S.BuildHasher S.Hasher.Hasher K.hash_input)
             (place_in S.BuildHasher S.Hasher.Hasher K.hash_input) self.now segment
             front.old.log front.new.log row.old.ticket (keys_in row.old.words.items) result }
     {
         let next = self.next(segment);
         let keys = Tag::of::<Vec<Bucket<Note<K, V, S>, u64, Law>>, Keys>(&row.words);
+        let behind = Tag::of::<Bucket<Note<K, V, S>, u64, Law>, Key>(&row.behind);
         let asked = Linking {
             ticket: row.ticket,
             segment,
             keys,
+            behind,
         };
         match link(front, next, &mut row.pen, &asked) {
             Ok(()) => TryLink::Linked,
@@ -256,12 +279,45 @@ impl<K: Eq + Hash, V, S: BuildHasher, P: Fact<K, V>, L: Shelf<Node<K, V, S, P>>>
             seat.old.front.log seat.new.front.log row.now.ticket index to result }
     {
         seat.front.learn(&self.start);
+        self.copy_at(&mut seat.front, segment, row, index, to)
+    }
+
+    /// Copies this word into a bucket of the row's array, where it is unset. Answers whether it was.
+    pub(crate) fn copy_at(
+        &self,
+        front: &mut Seen<Note<K, V, S>, u64, Law>,
+        segment: usize,
+        row: &Row<K, V, S>,
+        index: usize,
+        to: Word,
+    ) -> bool
+        requires book { front.old.book ≡ self.now.book }
+        requires log { IsLogOf K.eq (hash_in S.BuildHasher S.Hasher.Hasher K.hash_input)
+            (place_in S.BuildHasher S.Hasher.Hasher K.hash_input) self.now front.old.log }
+        requires segment { segment < self.now.segments }
+        requires index { index < length row.now.words.items }
+        requires small { IsSmall to }
+        requires row { AreRow self.now.book row.now.ticket row.now.words.items front.old.log }
+        requires follows { Follows segment row.now.ticket (keys_in row.now.words.items)
+            front.old.log }
+        requires wanted { WantsCopy K.eq (hash_in S.BuildHasher S.Hasher.Hasher K.hash_input)
+            (place_in S.BuildHasher S.Hasher.Hasher K.hash_input) self.now.hasher
+            self.now.segments segment row.now.ticket index to front.old.log }
+        ensures book { front.new.book ≡ front.old.book }
+        ensures goes_on { GoesOn K.eq (hash_in S.BuildHasher S.Hasher.Hasher K.hash_input)
+            (place_in S.BuildHasher S.Hasher.Hasher K.hash_input) self.now
+            front.old.log front.new.log }
+        ensures copies { Copies K.eq (hash_in S.BuildHasher S.Hasher.Hasher K.hash_input)
+            (place_in S.BuildHasher S.Hasher.Hasher K.hash_input) self.now segment
+            front.old.log front.new.log row.now.ticket index to result }
+    {
+        let _segment = segment;
         let asked = Copying {
             array: row.ticket,
             index,
             to,
         };
-        match copy(&mut seat.front, &row.words[index], number_of(to), &asked) {
+        match copy(front, &row.words[index], number_of(to), &asked) {
             Ok(()) => true,
             Err(_) => false,
         }

@@ -176,11 +176,12 @@ impl<
         ensures hasher { IfOk result (λ t. t.hasher ≡ plan.hasher) }
     {
         let count = all_words(plan.segments, plan.size)?;
-        let all = count + plan.segments + 1;
+        let all = count + plan.segments + plan.segments + 1;
         let (start, mut pens) = Seen::open_row::<Plan<S>, Opens>(&plan, Start::alone(), all);
         let door = Bucket::tracked(0, &mut pens.take());
         let buckets = make_words(alloc, &mut pens, count)?;
         let nexts = make_words(alloc, &mut pens, plan.segments)?;
+        let roots = make_words(alloc, &mut pens, plan.segments)?;
         let names = Tag::of::<Seen<Note<K, V, S>, u64, Law>, OfBook>(&start);
         let shelf = L::for_table(alloc, &names)?;
         let Plan {
@@ -196,6 +197,7 @@ impl<
             door,
             buckets,
             nexts,
+            roots,
             shelf,
             of: PhantomData,
         })

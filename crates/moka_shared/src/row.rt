@@ -6,11 +6,13 @@ use moka_history::Note;
 use std::hash::{BuildHasher, Hash};
 
 /// Words that were made for an array which is announced on this ticket. They are unset, and part of no
-/// array so far. The pen is that of the ticket.
+/// array so far, and neither is the one behind them, which is to name the array after this one. The pen
+/// is that of the ticket.
 #[derive(Drop)]
 pub struct Row<K: Eq + Hash, V, S: BuildHasher> {
     pub(crate) ticket: u64,
     pub(crate) words: Vec<Word<Note<K, V, S>, u64, Law>>,
+    pub(crate) behind: Word<Note<K, V, S>, u64, Law>,
     pub(crate) pen: Pen,
 }
 

@@ -35,6 +35,7 @@ pub(crate) fn announce<K: Eq + Hash, V, S: BuildHasher>(
     requires some { 0 < length front.old.log }
     requires next { asked.now.ticket ≡ (state_of front.old.log).segments + (drawn + 1) }
     requires small { asked.now.ticket ≤ 2 ^ 60 }
+    requires grown { (g : ℕ) → asked.now.grown ≡ Some g → g ≤ (state_of front.old.log).last }
     ensures book { front.new.book ≡ front.old.book }
     ensures names { IfOk result (λ pen. (pen.book ≡ front.new.book)
         × IsAnnounced asked.now.ticket (plan_of asked.now) pen.nib front.new.log) }

@@ -37,6 +37,7 @@ pub struct HashMap<
     pub(crate) door: Bucket<Note<K, V, S>, u64, Law>,
     pub(crate) buckets: Vec<Bucket<Note<K, V, S>, u64, Law>>,
     pub(crate) nexts: Vec<Bucket<Note<K, V, S>, u64, Law>>,
+    pub(crate) roots: Vec<Bucket<Note<K, V, S>, u64, Law>>,
     pub(crate) shelf: L,
     pub(crate) of: PhantomData<P>,
 }
@@ -59,7 +60,7 @@ impl<K: Eq + Hash, V, S: BuildHasher, P: Fact<K, V>, L: Shelf<Node<K, V, S, P>>>
       segments = t.segments;
       size = t.size;
       book = t.start.book;
-    } t.start.log t.door t.buckets.items t.nexts.items (L.owner t.shelf) };
+    } t.start.log t.door t.buckets.items t.nexts.items t.roots.items (L.owner t.shelf) };
 }
 
 impl<K: Eq + Hash, V, S: BuildHasher, P: Fact<K, V>, L: Shelf<Node<K, V, S, P>>> HashMap<
@@ -122,6 +123,15 @@ impl<K: Eq + Hash, V, S: BuildHasher, P: Fact<K, V>, L: Shelf<Node<K, V, S, P>>>
             (1 + self.now.segments * self.now.size + segment) }
     {
         &self.nexts[segment]
+    }
+
+    /// The word that names the segment's root, 0 while that is its first array.
+    pub(crate) fn root(&self, segment: usize) -> &Bucket<Note<K, V, S>, u64, Law>
+        requires segment { segment < self.now.segments }
+        ensures { result.now ≡ word_named self.now.book
+            (1 + self.now.segments * self.now.size + self.now.segments + segment) }
+    {
+        &self.roots[segment]
     }
 
     /// Reads the word of a bucket. The front becomes the log at the load.

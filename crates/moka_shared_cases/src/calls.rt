@@ -1,10 +1,29 @@
 //! Calls of tables of numbers, made by the tests.
 ghost use Rattle.std.specs.Prelude.{◌≡◌};
 
-use moka_shared::{HashMap, Seat, TryChange, TryGet, TryInsert, TryLink, TrySeal, Unopened};
+use moka_shared::{
+    HashMap, Seat, TryChange, TryFill, TryGet, TryInsert, TryLink, TrySeal, TrySwing, Unopened,
+};
 use moka_words::Word;
 use std::alloc::{AllocError, Global};
 use std::hash::BuildHasher;
+
+/// What the last step told that was made of a segment's growth.
+#[derive(Drop)]
+pub(crate) enum Grown {
+    /// No row was opened.
+    Unopened(Unopened),
+    /// The row was to be linked.
+    Link(TryLink),
+    /// Its array was to be filled.
+    Fill(TryFill),
+    /// The segment's root was to be swung to it, the row of this ticket, and once more.
+    Swing {
+        swing: TrySwing,
+        again: TrySwing,
+        ticket: u64,
+    },
+}
 
 /// A table of numbers, and what one caller has seen of it.
 #[derive(Drop)]
@@ -115,6 +134,56 @@ impl<'a, S: BuildHasher + Drop> Caller<'a, S> {
                 Ok((link, row.ticket()))
             }
             Err(why) => Err(why),
+        }
+    }
+
+    /// Makes a row of so many words for the first segment, links it, fills its array, and swings the
+    /// root to it, twice.
+    pub(crate) fn grow(&mut self, alloc: Global, length: usize) -> Grown {
+        if self.table.actual_num_segments() == 0 {
+            return Grown::Unopened(Unopened::Memory);
+        }
+        match self.table.try_open_row(alloc, &mut self.seat, 0, length) {
+            Ok(mut row) => match self.table.try_link(&mut self.seat, 0, &mut row) {
+                TryLink::Linked => match self.table.try_fill(alloc, &mut self.seat, 0, &row) {
+                    TryFill::Filled => {
+                        let swing = self.table.try_swing(&mut self.seat, 0, &row);
+                        let again = self.table.try_swing(&mut self.seat, 0, &row);
+                        let ticket = row.ticket();
+                        Grown::Swing {
+                            swing,
+                            again,
+                            ticket,
+                        }
+                    }
+                    fill => Grown::Fill(fill),
+                },
+                link => Grown::Link(link),
+            },
+            Err(why) => Grown::Unopened(why),
+        }
+    }
+
+    /// The same, but its array isn't filled.
+    pub(crate) fn swing(&mut self, alloc: Global, length: usize) -> Grown {
+        if self.table.actual_num_segments() == 0 {
+            return Grown::Unopened(Unopened::Memory);
+        }
+        match self.table.try_open_row(alloc, &mut self.seat, 0, length) {
+            Ok(mut row) => match self.table.try_link(&mut self.seat, 0, &mut row) {
+                TryLink::Linked => {
+                    let swing = self.table.try_swing(&mut self.seat, 0, &row);
+                    let again = self.table.try_swing(&mut self.seat, 0, &row);
+                    let ticket = row.ticket();
+                    Grown::Swing {
+                        swing,
+                        again,
+                        ticket,
+                    }
+                }
+                link => Grown::Link(link),
+            },
+            Err(why) => Grown::Unopened(why),
         }
     }
 

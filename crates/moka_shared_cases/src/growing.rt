@@ -1,9 +1,9 @@
-//! A row that is made for a new array, words that are sealed, and the row's link.
+//! A row that is made for a new array, words that are sealed, the row's link, and the swing to it.
 
 use crate::hashers::BuildLast;
-use crate::rows::Deed::{Get, Link, Open, Put, PutAll, Seal, SealAll};
+use crate::rows::Deed::{Get, Grow, Link, Open, Put, PutAll, Seal, SealAll, Swing};
 use crate::rows::Told::{
-    Again, Count, Inserted, Length, Linked, Memory, PutBack, Sealed, There, Value,
+    Again, Count, Inserted, Length, Linked, Memory, PutBack, Sealed, Swung, There, Unset, Value,
 };
 use crate::rows::{Row, Told, wrong_row};
 use moka_shared::Missed;
@@ -73,6 +73,32 @@ fn an_array_after_a_full_one_is_twice_as_long(rt: HostRuntime) -> Result<(), Fai
         Row(SealAll(128), Count(38)),
         Row(Link(128), Length(256)),
         Row(Link(256), Linked(93)),
+    ];
+    assert_eq!(rt; wrong_row(rt.alloc(), 1, 64, BuildLast {}, &rows)?, None);
+    Ok(())
+}
+
+// The array that follows gets the 90 pairs. Who comes later finds it linked.
+#[test]
+fn a_root_is_swung_after_the_last_copy(rt: HostRuntime) -> Result<(), Fail> {
+    let rows = [
+        Row(PutAll(0, 90), Count(90)),
+        Row(Grow(256), Told::Open(0)),
+        Row(SealAll(128), Count(38)),
+        Row(Grow(128), Length(256)),
+        Row(Grow(256), Swung(94)),
+        Row(Grow(256), There(94)),
+    ];
+    assert_eq!(rt; wrong_row(rt.alloc(), 1, 64, BuildLast {}, &rows)?, None);
+    Ok(())
+}
+
+#[test]
+fn a_root_is_not_swung_before(rt: HostRuntime) -> Result<(), Fail> {
+    let rows = [
+        Row(Put(1, 10), Inserted),
+        Row(SealAll(128), Count(127)),
+        Row(Swing(128), Unset(0)),
     ];
     assert_eq!(rt; wrong_row(rt.alloc(), 1, 64, BuildLast {}, &rows)?, None);
     Ok(())

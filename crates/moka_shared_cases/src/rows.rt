@@ -1,8 +1,10 @@
 //! Worked cases as rows: what is done with a table, and what it tells.
 ghost use Rattle.std.specs.Prelude.{◌<◌, ◌≤◌};
 
-use crate::calls::Caller;
-use moka_shared::{HashMap, Missed, TryChange, TryGet, TryInsert, TryLink, TrySeal, Unopened};
+use crate::calls::{Caller, Grown};
+use moka_shared::{
+    HashMap, Missed, TryChange, TryFill, TryGet, TryInsert, TryLink, TrySeal, TrySwing, Unopened,
+};
 use moka_words::Word;
 use std::alloc::{AllocError, Global};
 use std::hash::BuildHasher;
@@ -29,6 +31,11 @@ pub(crate) enum Deed {
     Open(usize),
     /// A row of so many words is made for the first segment, and linked.
     Link(usize),
+    /// A row of so many words is made for the first segment, linked and filled, and the root is
+    /// swung to it.
+    Grow(usize),
+    /// The same, but it isn't filled.
+    Swing(usize),
     /// The word of this bucket of the first segment is sealed.
     Seal(usize),
     /// The words of the first segment before this bucket are sealed, and counted where they were
@@ -63,6 +70,12 @@ pub(crate) enum Told {
     Open(usize),
     /// An array that follows has so many words.
     Length(usize),
+    /// The array of this number is the segment's root by this caller, and once only.
+    Swung(u64),
+    /// The array of this number is the root by an earlier swing.
+    Root(u64),
+    /// The word of this bucket isn't set.
+    Unset(usize),
     /// This word stands there for good.
     Sealed(Word),
     /// There are so many.
@@ -126,6 +139,8 @@ fn tell<S: BuildHasher + Drop>(alloc: Global, caller: &mut Caller<'_, S>, deed: 
         Deed::GetAll(first, end) => Told::Count(caller.get_all(first, end)),
         Deed::Open(length) => row_told(caller.row(alloc, length)),
         Deed::Link(length) => link_told(caller.link(alloc, length)),
+        Deed::Grow(length) => grown_told(&caller.grow(alloc, length)),
+        Deed::Swing(length) => grown_told(&caller.swing(alloc, length)),
         Deed::Seal(index) => seal_told(caller.seal(index)),
         Deed::SealAll(end) => Told::Count(caller.seal_all(end)),
     }
@@ -165,20 +180,66 @@ pub(crate) fn get_told(answer: &Result<TryGet<u64>, AllocError>) -> Told {
 fn row_told(row: Result<(usize, u64), Unopened>) -> Told {
     match row {
         Ok((length, ticket)) => Told::Row(length, ticket),
-        Err(Unopened::Again(missed)) => Told::Again(missed),
-        Err(Unopened::Memory) => Told::Memory,
+        Err(why) => unopened_told(why),
+    }
+}
+
+// What is told where no row was opened.
+fn unopened_told(why: Unopened) -> Told {
+    match why {
+        Unopened::Again(missed) => Told::Again(missed),
+        Unopened::Memory => Told::Memory,
+    }
+}
+
+// What is told of a link of the row of this ticket.
+fn joined_told(link: TryLink, ticket: u64) -> Told {
+    match link {
+        TryLink::Linked => Told::Linked(ticket),
+        TryLink::There(array) => Told::There(array),
+        TryLink::Open(index) => Told::Open(index),
+        TryLink::Length(length) => Told::Length(length),
     }
 }
 
 // What is told of a link.
 fn link_told(link: Result<(TryLink, u64), Unopened>) -> Told {
     match link {
-        Ok((TryLink::Linked, ticket)) => Told::Linked(ticket),
-        Ok((TryLink::There(array), _)) => Told::There(array),
-        Ok((TryLink::Open(index), _)) => Told::Open(index),
-        Ok((TryLink::Length(length), _)) => Told::Length(length),
-        Err(Unopened::Again(missed)) => Told::Again(missed),
-        Err(Unopened::Memory) => Told::Memory,
+        Ok((link, ticket)) => joined_told(link, ticket),
+        Err(why) => unopened_told(why),
+    }
+}
+
+// What is told of an array that is filled.
+fn fill_told(fill: TryFill) -> Told {
+    match fill {
+        TryFill::Filled => Told::Inserted,
+        TryFill::Again(missed) => Told::Again(missed),
+        TryFill::Memory => Told::Memory,
+    }
+}
+
+// What is told of a swing to the array of this number, and of another one after it.
+fn swing_told(swing: TrySwing, again: TrySwing, array: u64) -> Told {
+    match swing {
+        TrySwing::Swung if again == TrySwing::There(array) => Told::Swung(array),
+        TrySwing::Swung => Told::Nothing,
+        TrySwing::There(other) => Told::Root(other),
+        TrySwing::Unset(index) => Told::Unset(index),
+    }
+}
+
+// What is told of a segment that grows.
+fn grown_told(grown: &Grown) -> Told {
+    match grown {
+        Grown::Unopened(why) => unopened_told(*why),
+        Grown::Link(link) => joined_told(*link, 0),
+        Grown::Fill(fill) => fill_told(*fill),
+        Grown::Swing {
+            swing,
+            again,
+            ticket,
+        } => swing_told(*swing, *again, *ticket),
     }
 }
 

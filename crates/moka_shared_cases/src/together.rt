@@ -1,9 +1,10 @@
-//! Threads that put pairs at the same time. A pass that lost a bucket or a ticket to another thread is
-//! made again.
+//! Threads that put pairs at the same time, and threads that grow a segment. A pass that lost a bucket or a
+//! ticket to another thread is made again.
 
-use crate::calls::Caller;
+use crate::calls::{Caller, Grown};
 use crate::seats::{Fold, Table, of_capacity};
-use moka_shared::TryInsert;
+use moka_shared::{TryInsert, TryLink, TrySwing};
+use std::alloc::Global;
 use std::sync::Wait;
 use std::test::*;
 use std::thread;
@@ -85,5 +86,47 @@ fn a_key_of_four_threads_is_put_once(rt: HostRuntime) -> Result<(), Fail> {
     let table = of_capacity(rt.alloc(), 1024)?;
     assert_eq!(rt; put_by_four(&rt, &table, [0, 0, 0, 0], 512), 512);
     assert_eq!(rt; found(&table, 512), 512);
+    Ok(())
+}
+
+// Seals the two words of the first segment, and grows it, however often a pass has to be made again.
+// Tells how many roots this thread swung.
+fn grows<R: Wait>(rt: &R, alloc: Global, table: &Table) -> u64 {
+    let mut caller = Caller::new(table);
+    caller.seal_all(2);
+    for _ in rt.forever() {
+        match caller.grow(alloc, 2) {
+            Grown::Swing {
+                swing: TrySwing::Swung,
+                ..
+            } => return 1,
+            Grown::Link(TryLink::There(_)) => return 0,
+            _ => {}
+        }
+    }
+    0
+}
+
+// Four threads do so. Tells how many roots they swung.
+fn grown_by_four<R: Threads + Wait + Sync>(rt: &R, alloc: Global, table: &Table) -> u64 {
+    let (left, right) = thread::join(
+        rt,
+        || {
+            let (x, y) = thread::join(rt, || grows(rt, alloc, table), || grows(rt, alloc, table));
+            x.wrapping_add(y)
+        },
+        || {
+            let (x, y) = thread::join(rt, || grows(rt, alloc, table), || grows(rt, alloc, table));
+            x.wrapping_add(y)
+        },
+    );
+    left.wrapping_add(right)
+}
+
+#[test]
+fn a_segment_of_four_threads_grows_once(rt: HostRuntime) -> Result<(), Fail> {
+    let alloc = rt.alloc();
+    let table = of_capacity(alloc, 64)?;
+    assert_eq!(rt; grown_by_four(&rt, alloc, &table), 1);
     Ok(())
 }

@@ -11,6 +11,8 @@ mod ending;
 #[cfg(test)]
 mod outlasting;
 #[cfg(test)]
+mod reading;
+#[cfg(test)]
 mod same_keys;
 #[cfg(test)]
 mod spelling;

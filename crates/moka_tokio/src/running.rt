@@ -24,9 +24,9 @@ where
     runtime.block_on(rt, call)
 }
 
-/// Runs a call as `beside` does, for at most this long; each poll has a moment that comes from
-/// there. Where the time is over first the call is cancelled, and the error is of the kind
-/// `TimedOut`. An error of the call itself becomes one as `PollError` does.
+/// Runs a call as `beside` does, for at most this long; each poll has a moment of `moments`.
+/// Where the time is over first the call is cancelled, and the error is of the kind `TimedOut`.
+/// An error of the call itself becomes one as `PollError` does.
 pub fn within<R, S, M>(
     rt: &R,
     runtime: &mut Runtime,

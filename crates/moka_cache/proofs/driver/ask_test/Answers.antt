@@ -29,4 +29,7 @@ pub returns-in-Some-clause-asked : goal.returns-in-Some-clause-asked
 returns-in-Some-clause-asked g c = record { asks = c.replaces.ensures.again; same = c.replaces.ensures.same; tested = c.replaces.ensures.tested }
 
 pub returns-in-None-clause-asked : goal.returns-in-None-clause-asked
-returns-in-None-clause-asked g c = asked_still g.Q.Asked.can_poll g.Q.Asked.gives g.Q.Asked.tests c.args.asked.now c.requires
+returns-in-None-clause-asked g c = asked_still g.Q.Asked.can_poll g.Q.Asked.gives g.Q.Asked.tests c.args.asked.now c.requires.asks
+
+pub replaces-requires-clause-so : goal.replaces-requires-clause-so
+replaces-requires-clause-so g c = c.requires.so c.in-Some.value.now (sym c.tested.ensures ∙ ap (option_map (λ v. v.now)) c.in-Some.is)

@@ -5,7 +5,7 @@ use Rattle.moka_history.proofs.keeping.link_is_there.Goals as goal
 
 pub returns : goal.returns
 returns g c = record {
-  there = λ eq hash place divided log kept segment size nodes key call x next array at some.
-      link_there eq (hash kept.hasher) (place kept.hasher kept.segments) (state_of log) (entries_of log) (good_now eq hash place log kept) segment size nodes key call x
+  there = λ eq hash place divided log kept segment before size nodes key call x next array at some.
+      link_there eq (hash kept.hasher) (place kept.hasher kept.segments) (state_of log) (entries_of log) (good_now eq hash place log kept) segment before size nodes key call x
       next array at some;
 }

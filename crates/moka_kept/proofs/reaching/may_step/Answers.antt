@@ -14,13 +14,13 @@ returns-in-Some-clause-may g c =
     let within = c.if-number-last.false in
     let number = c.number.ensures in (
       omega (arith, last, within, number),
-      allowed g.K.PartialEq.eq c.args.desk.now w h flow.call (call_of flow) c.in-Some.need (sym c.in-Some.is ∙ c.in-Ok.ensures.ok)
+      allowed g.K.PartialEq.eq c.args.desk.now w h flow.call (call_of flow) c.in-Some.need (sym c.in-Some.is ∙ c.requires)
           (λ made own is. may w made h (subst (λ n. IsOfCall n made) (sym c.number-in-Some.ensures) own) is),
     )) c.may_visit.ensures.may
 
 pub returns-in-Some-clause-takes : goal.returns-in-Some-clause-takes
 returns-in-Some-clause-takes g c =
-    on_true_so c.may_visit.result _ _ (λ takes. taking_needs (access_at c.args.flow.now) c.in-Some.need (sym c.in-Some.is ∙ c.in-Ok.ensures.ok) ∙ takes) c.may_visit.ensures.takes
+    on_true_so c.may_visit.result _ _ (λ takes. taking_needs (access_at c.args.flow.now) c.in-Some.need (sym c.in-Some.is ∙ c.requires) ∙ takes) c.may_visit.ensures.takes
 
 pub returns-in-None-clause-may : goal.returns-in-None-clause-may
 returns-in-None-clause-may g c = on_true (not c.args.takes) _ (λ yes w h.
@@ -29,7 +29,7 @@ returns-in-None-clause-may g c = on_true (not c.args.takes) _ (λ yes w h.
     let within = c.if-number-last.false in
     let number = c.number.ensures in (
       omega (arith, last, within, number),
-      needs_none g.K.PartialEq.eq c.args.desk.now w h flow.call (call_of flow) (sym c.in-None.is ∙ c.in-Ok.ensures.ok),
+      needs_none g.K.PartialEq.eq c.args.desk.now w h flow.call (call_of flow) (sym c.in-None.is ∙ c.requires),
     ))
 
 untaken : (b : Bool) → not b ≡ true → false ≡ b
@@ -38,4 +38,4 @@ untaken false e = refl
 
 pub returns-in-None-clause-takes : goal.returns-in-None-clause-takes
 returns-in-None-clause-takes g c =
-    on_true (not c.args.takes) _ (λ yes. taking_none (access_at c.args.flow.now) (sym c.in-None.is ∙ c.in-Ok.ensures.ok) ∙ untaken c.args.takes yes)
+    on_true (not c.args.takes) _ (λ yes. taking_none (access_at c.args.flow.now) (sym c.in-None.is ∙ c.requires) ∙ untaken c.args.takes yes)

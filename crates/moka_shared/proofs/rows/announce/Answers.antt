@@ -24,7 +24,7 @@ compare_exchange-found-requires g c =
       offer.0,
       rw (c.requires.door, pen.1, offer.1, offer.3)
           (array_announcing_moves eq hash place equals c.args.front.now.log c.requires.some c.args.drawn asked.ticket asked.segment asked.length asked.grown
-          c.requires.next c.requires.small),
+          c.requires.next c.requires.small c.requires.grown),
     )
 
 pub returns-clause-names : goal.returns-clause-names

@@ -1,11 +1,14 @@
 -- A state whose call was begun goes on as its flow does.
+use Rattle.moka_kept.specs.Facts.{facts}
 use Rattle.moka_cache.specs.Asked.{Accords}
-use Rattle.moka_cache.proofs.Advancing.{answers_at, came_at, failed_at, named_at, names_at, over_at, rests_at, unasked_at, unspent}
-use Rattle.moka_cache.proofs.Staying.{asked_still}
+use Rattle.moka_cache.proofs.Advancing.{answers_at, came_at, failed_at, named_at, names_at, over_at, rests_at, runs_at, unasked_at, unspent}
 use Rattle.moka_cache.proofs.cache.Cache.advance.Goals as goal
 
 pub go_on-requires-clause-rests : goal.go_on-requires-clause-rests
 go_on-requires-clause-rests g c = rests_at c.args.stage.now c.in-Running.flow c.in-Running.is c.requires.may
+
+pub go_on-requires-clause-so : goal.go_on-requires-clause-so
+go_on-requires-clause-so g c = runs_at c.args.stage.now c.in-Running.flow c.in-Running.is (facts g.K.PartialEq.eq g.P.Fact.holds) c.args.key.now (Accords (g.Q.Asked.gives c.args.asked.now) (g.Q.Asked.tests c.args.asked.now)) c.requires.so
 
 pub go_on-requires-clause-asks : goal.go_on-requires-clause-asks
 go_on-requires-clause-asks g c = c.requires.asks
@@ -14,17 +17,17 @@ go_on-requires-clause-asks g c = c.requires.asks
 
 pub end-requires : goal.end-requires
 end-requires g c =
-    over_at g.K.PartialEq.eq (Accords (g.Q.Asked.gives c.args.asked.now) (g.Q.Asked.tests c.args.asked.now)) c.in-Running.flow c.go_on.new.flow c.in-Ready-Ok.field-0 c.in-Ready-Ok.answer
+    over_at (facts g.K.PartialEq.eq g.P.Fact.holds) (Accords (g.Q.Asked.gives c.args.asked.now) (g.Q.Asked.tests c.args.asked.now)) c.in-Running.flow c.go_on.new.flow c.in-Ready-Ok.field-0 c.in-Ready-Ok.answer
     c.in-Ready-Ok.field-0-is c.in-Ready-Ok.ensures.polled
 
 pub returns-in-Ready-Ok-clause-answers : goal.returns-in-Ready-Ok-clause-answers
 returns-in-Ready-Ok-clause-answers g c =
-    answers_at g.K.PartialEq.eq (Accords (g.Q.Asked.gives c.args.asked.now) (g.Q.Asked.tests c.args.asked.now)) c.args.stage.now c.in-Running.flow c.in-Running.is c.go_on.new.flow
+    answers_at (facts g.K.PartialEq.eq g.P.Fact.holds) (Accords (g.Q.Asked.gives c.args.asked.now) (g.Q.Asked.tests c.args.asked.now)) c.args.stage.now c.in-Running.flow c.in-Running.is c.go_on.new.flow
     c.in-Ready-Ok.field-0 c.in-Ready-Ok.answer c.in-Ready-Ok.field-0-is c.in-Ready-Ok.ensures.polled
 
 pub returns-in-Ready-Ok-clause-unasked : goal.returns-in-Ready-Ok-clause-unasked
 returns-in-Ready-Ok-clause-unasked g c =
-    unasked_at g.K.PartialEq.eq (Accords (g.Q.Asked.gives c.args.asked.now) (g.Q.Asked.tests c.args.asked.now)) c.args.stage.now c.in-Running.flow c.in-Running.is c.args.asked.now c.go_on.new.asked
+    unasked_at (facts g.K.PartialEq.eq g.P.Fact.holds) (Accords (g.Q.Asked.gives c.args.asked.now) (g.Q.Asked.tests c.args.asked.now)) c.args.stage.now c.in-Running.flow c.in-Running.is c.args.asked.now c.go_on.new.asked
     c.go_on.ensures.unasked
 
 pub returns-in-Ready-Ok-clause-over : goal.returns-in-Ready-Ok-clause-over
@@ -44,23 +47,23 @@ returns-in-Ready-Ok-clause-context g c = record { kept = c.go_on.ensures.context
 pub returns-in-Ready-Err-clause-failed : goal.returns-in-Ready-Err-clause-failed
 returns-in-Ready-Err-clause-failed g c =
     let such = Accords (g.Q.Asked.gives c.args.asked.now) (g.Q.Asked.tests c.args.asked.now) in
-    came_at g.K.PartialEq.eq such c.args.stage.now c.in-Running.flow c.in-Running.is c.go_on.new.flow
-    (failed_at g.K.PartialEq.eq such c.in-Running.flow c.go_on.new.flow c.in-Ready-Err.field-0 c.in-Ready-Err.e c.in-Ready-Err.field-0-is c.in-Ready-Err.ensures.polled).1
+    came_at (facts g.K.PartialEq.eq g.P.Fact.holds) such c.args.stage.now c.in-Running.flow c.in-Running.is c.go_on.new.flow
+    (failed_at (facts g.K.PartialEq.eq g.P.Fact.holds) such c.in-Running.flow c.go_on.new.flow c.in-Ready-Err.field-0 c.in-Ready-Err.e c.in-Ready-Err.field-0-is c.in-Ready-Err.ensures.polled).1
 
 pub returns-in-Ready-Err-clause-unasked : goal.returns-in-Ready-Err-clause-unasked
 returns-in-Ready-Err-clause-unasked g c =
-    unasked_at g.K.PartialEq.eq (Accords (g.Q.Asked.gives c.args.asked.now) (g.Q.Asked.tests c.args.asked.now)) c.args.stage.now c.in-Running.flow c.in-Running.is c.args.asked.now c.go_on.new.asked
+    unasked_at (facts g.K.PartialEq.eq g.P.Fact.holds) (Accords (g.Q.Asked.gives c.args.asked.now) (g.Q.Asked.tests c.args.asked.now)) c.args.stage.now c.in-Running.flow c.in-Running.is c.args.asked.now c.go_on.new.asked
     c.go_on.ensures.unasked
 
 pub returns-in-Ready-Err-clause-spent : goal.returns-in-Ready-Err-clause-spent
 returns-in-Ready-Err-clause-spent g c =
     unspent c.in-Ready-Err.e c.go_on.new.flow
-    (failed_at g.K.PartialEq.eq (Accords (g.Q.Asked.gives c.args.asked.now) (g.Q.Asked.tests c.args.asked.now)) c.in-Running.flow c.go_on.new.flow c.in-Ready-Err.field-0 c.in-Ready-Err.e
+    (failed_at (facts g.K.PartialEq.eq g.P.Fact.holds) (Accords (g.Q.Asked.gives c.args.asked.now) (g.Q.Asked.tests c.args.asked.now)) c.in-Running.flow c.go_on.new.flow c.in-Ready-Err.field-0 c.in-Ready-Err.e
     c.in-Ready-Err.field-0-is c.in-Ready-Err.ensures.polled).0
 
 pub returns-in-Ready-Err-clause-again : goal.returns-in-Ready-Err-clause-again
 returns-in-Ready-Err-clause-again g c =
-    (failed_at g.K.PartialEq.eq (Accords (g.Q.Asked.gives c.args.asked.now) (g.Q.Asked.tests c.args.asked.now)) c.in-Running.flow c.go_on.new.flow c.in-Ready-Err.field-0 c.in-Ready-Err.e
+    (failed_at (facts g.K.PartialEq.eq g.P.Fact.holds) (Accords (g.Q.Asked.gives c.args.asked.now) (g.Q.Asked.tests c.args.asked.now)) c.in-Running.flow c.go_on.new.flow c.in-Ready-Err.field-0 c.in-Ready-Err.e
     c.in-Ready-Err.field-0-is c.in-Ready-Err.ensures.polled).1.rests
 
 pub returns-in-Ready-Err-clause-names_on : goal.returns-in-Ready-Err-clause-names_on
@@ -76,7 +79,7 @@ returns-in-Ready-Err-clause-context g c = record { kept = c.go_on.ensures.contex
 
 pub returns-in-Pending-clause-came : goal.returns-in-Pending-clause-came
 returns-in-Pending-clause-came g c =
-    came_at g.K.PartialEq.eq (Accords (g.Q.Asked.gives c.args.asked.now) (g.Q.Asked.tests c.args.asked.now)) c.args.stage.now c.in-Running.flow c.in-Running.is c.go_on.new.flow
+    came_at (facts g.K.PartialEq.eq g.P.Fact.holds) (Accords (g.Q.Asked.gives c.args.asked.now) (g.Q.Asked.tests c.args.asked.now)) c.args.stage.now c.in-Running.flow c.in-Running.is c.go_on.new.flow
     c.in-Pending.ensures.polled
 
 pub returns-in-Pending-clause-cause : goal.returns-in-Pending-clause-cause
@@ -84,7 +87,7 @@ returns-in-Pending-clause-cause g c = c.in-Pending.ensures.cause
 
 pub returns-in-Pending-clause-unasked : goal.returns-in-Pending-clause-unasked
 returns-in-Pending-clause-unasked g c =
-    unasked_at g.K.PartialEq.eq (Accords (g.Q.Asked.gives c.args.asked.now) (g.Q.Asked.tests c.args.asked.now)) c.args.stage.now c.in-Running.flow c.in-Running.is c.args.asked.now c.go_on.new.asked
+    unasked_at (facts g.K.PartialEq.eq g.P.Fact.holds) (Accords (g.Q.Asked.gives c.args.asked.now) (g.Q.Asked.tests c.args.asked.now)) c.args.stage.now c.in-Running.flow c.in-Running.is c.args.asked.now c.go_on.new.asked
     c.go_on.ensures.unasked
 
 pub returns-in-Pending-clause-pending : goal.returns-in-Pending-clause-pending
@@ -98,17 +101,3 @@ returns-in-Pending-clause-asked g c = c.go_on.ensures.asked
 
 pub returns-in-Pending-clause-context : goal.returns-in-Pending-clause-context
 returns-in-Pending-clause-context g c = c.in-Pending.ensures.context
-
--- ---- it was not begun
-
-pub returns-in-Fresh-clause-asked : goal.returns-in-Fresh-clause-asked
-returns-in-Fresh-clause-asked g c = asked_still g.Q.Asked.can_poll g.Q.Asked.gives g.Q.Asked.tests c.args.asked.now c.requires.asks
-
-pub returns-in-Fresh-clause-context : goal.returns-in-Fresh-clause-context
-returns-in-Fresh-clause-context g c = record { kept = λ fact holds. holds; armed = tt }
-
-pub returns-in-Spent-clause-asked : goal.returns-in-Spent-clause-asked
-returns-in-Spent-clause-asked g c = asked_still g.Q.Asked.can_poll g.Q.Asked.gives g.Q.Asked.tests c.args.asked.now c.requires.asks
-
-pub returns-in-Spent-clause-context : goal.returns-in-Spent-clause-context
-returns-in-Spent-clause-context g c = record { kept = λ fact holds. holds; armed = tt }

@@ -1,4 +1,7 @@
 -- It answers the value that it found, read or was told, or that there is none, or that it gave up.
+use Rattle.moka_cache.proofs.Answering.{option_told, optionally_so}
+use Rattle.std.proofs.Common.{refl}
+use Rattle.std.proofs.lemmas.Option.{none-some}
 use Rattle.moka_cache.specs.Keys.{key_of}
 use Rattle.moka_cache.specs.Loaded.{optionally_loaded_in}
 use Rattle.moka_cache.specs.Settings.{rules_of}
@@ -9,3 +12,16 @@ pub returns-clause-tells : goal.returns-clause-tells
 returns-clause-tells g c =
     option_tells g.K.PartialEq.eq c.loads_tell.ensures.tells (rules_of c.call_asking.result.cache.now) (λ load. key_of load.key) (λ named said. optionally_loaded_in said) g.I.Init.gives c.call_asking.result.asked
     (λ load named said may. optionally (key_of load.key) named said may) c.call_asking.result.stage _ c.call_asking.ensures.stage
+
+pub call_asking-requires-clause-brings : goal.call_asking-requires-clause-brings
+call_asking-requires-clause-brings g c = λ key value is. absurd (none-some (key, value) is)
+
+pub call_asking-requires-clause-names : goal.call_asking-requires-clause-names
+call_asking-requires-clause-names g c = λ key is. is
+
+pub call_asking-requires-clause-gives : goal.call_asking-requires-clause-gives
+call_asking-requires-clause-gives g c = λ told key value gives is e. option_told g.P.Fact.holds c.args.key.now (g.I.Init.gives c.args.init) c.requires.fact told key value gives is e
+
+pub returns-clause-gives : goal.returns-clause-gives
+returns-clause-gives g c = λ told by.
+    optionally_so (g.P.Fact.holds c.args.key.now) by.0 told by.3 (λ value is. c.call_asking.ensures.answers c.args.key.now by.0 value refl by.1 is)

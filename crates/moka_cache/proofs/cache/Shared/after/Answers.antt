@@ -1,5 +1,6 @@
 -- A hold that left the call waiting left its task registered.
-use Rattle.std.proofs.Common.{◌≡◌, inl, inr, Some, IfSome, sym, subst}
+use Rattle.std.proofs.Common.{◌≡◌, ap, inl, inr, Some, IfSome, sym, ◌∙◌, subst}
+use Rattle.moka_kept.specs.Meets.{pair_told}
 use Rattle.futures.specs.Task.{Lasting}
 use Rattle.futures.specs.declared.task.Poll.TheVariants.{Pending}
 use Rattle.moka_kept.specs.Ends.{MayEnd}
@@ -54,3 +55,9 @@ returns-in-Memory-clause-asked g c = asked_still g.Q.Asked.can_poll g.Q.Asked.gi
 
 pub returns-in-Due-clause-asked : goal.returns-in-Due-clause-asked
 returns-in-Due-clause-asked g c = asked_still g.Q.Asked.can_poll g.Q.Asked.gives g.Q.Asked.tests c.args.asked.now c.requires.asks
+
+pub after_due-requires-clause-so : goal.after_due-requires-clause-so
+after_due-requires-clause-so g c = c.requires.so (c.in-Due.due.key, c.in-Due.due.value) (ap pair_told c.in-Due.is)
+
+pub begin_asked-requires-clause-so : goal.begin_asked-requires-clause-so
+begin_asked-requires-clause-so g c = λ pair is. c.requires.so pair (ap pair_told c.in-Asks.is ∙ is)

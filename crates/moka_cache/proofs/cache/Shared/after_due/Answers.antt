@@ -24,5 +24,5 @@ returns-in-Some-clause-polled g c = λ pending.
 
 pub start-requires : goal.start-requires
 start-requires g c = record {
-  hears = whichever c.args.self.now.listener (λ l. g.L.Listener.hears l c.args.due.key c.args.due.value) (λ l. c.requires.hears l c.args.due.key c.args.due.value);
+  hears = whichever c.args.self.now.listener (λ l. g.L.Listener.hears l c.args.due.key c.args.due.value) (λ l. c.requires.hears l c.args.due.key c.args.due.value c.requires.so);
 }

@@ -13,7 +13,7 @@ pub returns-clause-same : goal.returns-clause-same
 returns-clause-same g c =
     let old = c.args.self.now in
     let new = c.poll.new.self in
-    gives_pending g.K.PartialEq.eq (Accords (g.Q.Asked.gives new.asked) (g.Q.Asked.tests new.asked)) (Accords (g.Q.Asked.gives old.asked) (g.Q.Asked.tests old.asked))
+    gives_pending g.K.PartialEq.eq g.P.Fact.holds (Accords (g.Q.Asked.gives new.asked) (g.Q.Asked.tests new.asked)) (Accords (g.Q.Asked.gives old.asked) (g.Q.Asked.tests old.asked))
     (accords_weaker (g.Q.Asked.gives new.asked) (g.Q.Asked.gives old.asked) (g.Q.Asked.tests new.asked) (g.Q.Asked.tests old.asked) c.poll.ensures.same c.poll.ensures.tested) g.A.Begin.start g.A.Begin.named g.A.Begin.output
     (rules_of old.cache.now) (rules_of new.cache.now) (ap rules_of c.poll.ensures.cache) old.stage new.stage old.named new.named c.poll.ensures.suits c.poll.result c.poll.ensures.came c.poll.ensures.names
 
@@ -21,6 +21,6 @@ pub returns-clause-same_failed : goal.returns-clause-same_failed
 returns-clause-same_failed g c =
     let old = c.args.self.now in
     let new = c.poll.new.self in
-    gives_failed g.K.PartialEq.eq (Accords (g.Q.Asked.gives new.asked) (g.Q.Asked.tests new.asked)) (Accords (g.Q.Asked.gives old.asked) (g.Q.Asked.tests old.asked))
+    gives_failed g.K.PartialEq.eq g.P.Fact.holds (Accords (g.Q.Asked.gives new.asked) (g.Q.Asked.tests new.asked)) (Accords (g.Q.Asked.gives old.asked) (g.Q.Asked.tests old.asked))
     (accords_weaker (g.Q.Asked.gives new.asked) (g.Q.Asked.gives old.asked) (g.Q.Asked.tests new.asked) (g.Q.Asked.tests old.asked) c.poll.ensures.same c.poll.ensures.tested) g.A.Begin.start g.A.Begin.named g.A.Begin.output
     (rules_of old.cache.now) (rules_of new.cache.now) (ap rules_of c.poll.ensures.cache) old.stage new.stage old.named new.named c.poll.ensures.suits c.poll.result c.poll.ensures.failed c.poll.ensures.names_on

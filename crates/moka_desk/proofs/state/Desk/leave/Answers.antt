@@ -1,6 +1,5 @@
-use Rattle.std.proofs.Common.{◌≡◌, ℕ, ◌==◌, Bool, [], not, ◌&&◌, ◌++◌, nat_eq, nat_lt, false, cond, List, Some, None, is_some, IsNone, IfSome, true, refl, sym, ap, ◌∙◌, subst, option_to_list}
+use Rattle.std.proofs.Common.{◌≡◌, ℕ, ◌==◌, Bool, [], not, ◌&&◌, ◌++◌, nat_lt, false, cond, List, Some, None, is_some, IsNone, IfSome, true, refl, sym, ap, ◌∙◌, subst, option_to_list}
 use Rattle.std.proofs.lemmas.Bool.{eqb-true}
-use Rattle.std.specs.HashMap.{get}
 use Rattle.moka_sync.specs.Waiting.{without}
 use Rattle.moka_hist.specs.Finite.{put_at}
 use Rattle.moka_hist.specs.Conditions.{MayLeaveWith}
@@ -9,11 +8,10 @@ use Rattle.moka_hist.specs.declared.visits.Settled.TheVariants as settled
 use Rattle.moka_desk.specs.Asks.{ask_part}
 use Rattle.moka_desk.specs.Held.{holds_number}
 use Rattle.moka_desk.specs.Locks.{key_in, lock_part, locks_but, LocksAre}
-use Rattle.moka_desk.specs.Notices.{running}
 use Rattle.moka_desk.specs.Writes.{write_part, WritesAre}
 use Rattle.moka_desk.specs.Waits.{lock_line, settlement_line}
 use Rattle.moka_desk.specs.Woken.{all_but, and_calls, is_out}
-use Rattle.moka_desk.proofs.Allowed.{leaves_its_own, runs_where_kept}
+use Rattle.moka_desk.proofs.Allowed.{leaves_its_own}
 use Rattle.moka_desk.proofs.Misses.{answers_miss, come_if_listed, come_listed, left_listed, none_else, none_still, some_left}
 use Rattle.moka_desk.proofs.Waiters.{leaves_listed, more_readers, put_none, settles_listed, some_reader}
 use Rattle.moka_desk.proofs.state.Desk.leave.Goals as goal
@@ -49,7 +47,7 @@ returns-clause-makes g c = λ w h may.
         locks = cond b w.locks (locks_but (lock_part w) call);
         locked = put_at w.locked call None;
         kept = put_at w.kept call (cond b (key_in (lock_part w) call) None);
-      })) (c.is_running-runs.ensures ∙ runs_where_kept (running call) (get nat_eq self.notices.running call) (w.notices call) (h.notices.running call))
+      })) (c.is_running-runs.ensures ∙ h.notices.running call)
           (c.leave-3.ensures (lock_part w) h.locks);
       notices = h.notices;
       asks = c.leave-4.ensures.makes (ask_part w) h.asks;
@@ -66,7 +64,7 @@ returns-clause-misses g c = λ w h m.
     let others : ℕ → List ℕ = λ n. without call (settlement_line self n) in
     let lockers : ℕ → List ℕ = λ n. without call (lock_line self n) in
     let runs : c.is_running-runs.result ≡ is_running w call =
-    c.is_running-runs.ensures ∙ runs_where_kept (running call) (get nat_eq self.notices.running call) (w.notices call) (h.notices.running call) in
+    c.is_running-runs.ensures ∙ h.notices.running call in
     record {
       turns = left_listed _ _ _ _ call c.leave-5.ensures.turns (λ n k other is. is) m.turns;
       settlements = come_listed others _ (λ n k. ((call == k) ≡ false) × (w.joined k ≡ Some n) × IsNone (w.settled n)) _ call c.leave-5.ensures.settlements

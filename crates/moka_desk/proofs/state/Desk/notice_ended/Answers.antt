@@ -1,8 +1,5 @@
-use Rattle.std.proofs.Common.{◌≡◌, true, sym, ◌∙◌, nat_eq}
-use Rattle.std.specs.HashMap.{get}
+use Rattle.std.proofs.Common.{◌≡◌, true, sym, ◌∙◌}
 use Rattle.moka_hist.specs.Visits.{is_running}
-use Rattle.moka_desk.specs.Notices.{running}
-use Rattle.moka_desk.proofs.Allowed.{runs_where_kept}
 use Rattle.moka_desk.proofs.Misses.{left_listed, wait_listed}
 use Rattle.moka_desk.proofs.state.Desk.notice_ended.Goals as goal
 
@@ -11,7 +8,7 @@ returns-then-is_running-clause-misses g c = λ w h may m.
     let number = c.args.notice in
     let here : c.is_running.result ≡ true = c.if-is_running.true in
     let runs : is_running w number ≡ true =
-    sym (runs_where_kept (running number) (get nat_eq c.args.self.now.notices.running number) (w.notices number) (h.notices.running number)) ∙ sym c.is_running.ensures ∙ here in
+    sym (h.notices.running number) ∙ sym c.is_running.ensures ∙ here in
     record {
       turns = m.turns;
       settlements = m.settlements;

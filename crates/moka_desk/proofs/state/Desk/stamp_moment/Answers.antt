@@ -4,6 +4,7 @@ use Rattle.moka_hist.specs.Finite.{times}
 use Rattle.moka_hist.specs.Visits.{number_of}
 use Rattle.moka_hist.proofs.Owners.{is_none_of}
 use Rattle.moka_desk.specs.Held.{held_by}
+use Rattle.moka_desk.specs.Notices.{notice_part}
 use Rattle.moka_desk.specs.Writes.{write_part}
 use Rattle.moka_desk.proofs.Numbers.{unposted, unused_logged}
 use Rattle.moka_desk.proofs.Owing.{has_no_place}
@@ -36,8 +37,26 @@ stamp-requires-clause-free g c =
     let h = c.requires.1 in
     h.writes.holding c.args.call ∙ is_none_of (w.holding c.args.call) c.requires.2.0
 
+pub returns-in_err-reserve-clause-err : goal.returns-in_err-reserve-clause-err
+returns-in_err-reserve-clause-err g c = on_err c.from_residual.result (λ w h. record {
+  rules = h.rules;
+  clock = h.clock;
+  valid_after = h.valid_after;
+  predicates = h.predicates;
+  accessed = h.accessed;
+  turn = h.turn;
+  published = h.published;
+  last = h.last;
+  writes = h.writes;
+  loads = h.loads;
+  locks = h.locks;
+  notices = c.reserve.ensures.same (notice_part w) h.notices;
+  asks = h.asks;
+  listed = h.listed;
+})
+
 pub returns-in_err-stamp-clause-err : goal.returns-in_err-stamp-clause-err
-returns-in_err-stamp-clause-err g c = on_err c.from_residual.result (λ w h. record {
+returns-in_err-stamp-clause-err g c = on_err c.from_residual-in_err-stamp.result (λ w h. record {
   rules = h.rules;
   clock = h.clock;
   valid_after = h.valid_after;
@@ -49,7 +68,7 @@ returns-in_err-stamp-clause-err g c = on_err c.from_residual.result (λ w h. rec
   writes = c.in_err-stamp.ensures.err (write_part w) h.writes;
   loads = h.loads;
   locks = h.locks;
-  notices = h.notices;
+  notices = c.reserve.ensures.same (notice_part w) h.notices;
   asks = h.asks;
   listed = h.listed;
 })
@@ -67,7 +86,7 @@ returns-clause-makes g c = λ w h may. record {
   writes = rw (← h.clock) (c.in_ok-stamp.ensures.ok (write_part w) h.writes (record { stands = may.1.stands; held = may.1.held }));
   loads = h.loads;
   locks = h.locks;
-  notices = h.notices;
+  notices = c.reserve.ensures.same (notice_part w) h.notices;
   asks = h.asks;
   listed = h.listed;
 }

@@ -7,12 +7,14 @@ use Rattle.moka_desk.specs.StandsFor.{StandsFor}
 use Rattle.moka_kept.specs.Taking.{end_told}
 use Rattle.moka_kept.specs.declared.heard.ListenerEnd.{ListenerEnd}
 use Rattle.moka_kept.specs.declared.heard.ListenerEnd.TheVariants as end
+use Rattle.std.proofs.Common.{nat_eq}
+use Rattle.std.specs.HashMap.{get}
 use Rattle.moka_kept.proofs.Keeping.{kept_told}
 use Rattle.moka_kept.proofs.ground.Reach.hear.Goals as goal
 
 pub returns-clause-kept : goal.returns-clause-kept
 returns-clause-kept g c =
-    kept_told g.K.PartialEq.eq c.args.self.now.layers c.tell.new.self c.args.notice c.told_by.result c.tell.result c.telling_keeps_sound.ensures.sound c.tell.ensures.makes c.requires
+    kept_told g.K.PartialEq.eq g.P.Fact.holds (get nat_eq c.args.self.now.ends) c.args.self.now.layers c.tell.new.self c.args.notice c.told_by.result c.tell.result c.telling_keeps_sound.ensures.sound c.tell.ensures.makes c.requires
 
 pub returns-clause-told : goal.returns-clause-told
 returns-clause-told g c = λ w stands.

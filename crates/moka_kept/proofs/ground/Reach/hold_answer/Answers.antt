@@ -47,4 +47,6 @@ returns-clause-kept g c =
       decided = kept.decided;
       none_begun = kept.none_begun;
       unlisted = kept.unlisted;
+      stored = kept.stored;
+      ended = kept.ended;
     }

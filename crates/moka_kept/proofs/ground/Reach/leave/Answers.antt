@@ -7,27 +7,17 @@ use Rattle.moka_hist.specs.Plan.{held_by}
 use Rattle.moka_hist.specs.declared.writes.Write.{Write}
 use Rattle.moka_desk.specs.StandsFor.{StandsFor}
 use Rattle.moka_init.specs.FlowPlan.{call_of}
-use Rattle.moka_kept.proofs.Keeping.{kept_left}
 use Rattle.moka_kept.proofs.ground.Reach.leave.Goals as goal
 
-pub leave-requires : goal.leave-requires
-leave-requires g c =
-    let kept = c.requires in
-    (kept.world.desk, kept.stands.desk, (c.may_leave.ensures kept.world.desk kept.stands.desk).0 c.in-true.is)
-
-pub returns-in-true-clause-kept : goal.returns-in-true-clause-kept
-returns-in-true-clause-kept g c =
-    let kept = c.requires in
-    let may = (c.may_leave.ensures kept.world.desk kept.stands.desk).0 c.in-true.is in
-    kept_left g.K.PartialEq.eq c.args.self.now.layers c.leave.new.self c.number-call.result c.held-held.result c.leaving_keeps_sound.ensures.sound c.leave.ensures.makes kept may
+pub leave_allowed-requires-clause-may : goal.leave_allowed-requires-clause-may
+leave_allowed-requires-clause-may g c = λ w stands. (c.may_leave.ensures w stands).0 c.in-true.is
 
 pub returns-in-true-clause-left : goal.returns-in-true-clause-left
 returns-in-true-clause-left g c = λ w stands.
     let flow = c.args.flow.now in
-    let may = (c.may_leave.ensures w stands).0 c.in-true.is in
-    subst (λ n. StandsFor g.K.PartialEq.eq c.leave.new.self (left w n (held_by (call_of flow).plan))) c.number-call.ensures
-    (subst (λ (o : Option Write). StandsFor g.K.PartialEq.eq c.leave.new.self (left w c.number-call.result o)) c.held-held.ensures
-    (c.leave.ensures.makes w stands may))
+    subst (λ n. StandsFor g.K.PartialEq.eq c.leave_allowed.new.self.layers.desk (left w n (held_by (call_of flow).plan))) c.number-call.ensures
+    (subst (λ (o : Option Write). StandsFor g.K.PartialEq.eq c.leave_allowed.new.self.layers.desk (left w c.number-call.result o)) c.held-held.ensures
+    (c.leave_allowed.ensures.left w stands))
 
 pub returns-in-false-clause-refused : goal.returns-in-false-clause-refused
 returns-in-false-clause-refused g c = λ w stands may.

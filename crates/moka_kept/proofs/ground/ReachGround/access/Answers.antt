@@ -1,4 +1,5 @@
 -- Each access decides, and keeps the world sound.
+use Rattle.std.proofs.Common.{refl}
 use Rattle.std.proofs.lemmas.Result.{on_err_weaker}
 use Rattle.moka_kept.proofs.Reached.{gives_all, none_then, stays_reach}
 use Rattle.moka_kept.proofs.ground.ReachGround.access.Goals as goal
@@ -17,6 +18,7 @@ returns-clause-keeps g c =
       c.access_waking.ensures.call,
       none_then g.K.PartialEq.eq c.access_waking.result c.args.self.now.layers c.access_waking.new.self (fits.0, fits.1.ground) c.access_waking.ensures.decides c.access_waking.ensures.err
           c.access_waking.ensures.err_account,
+      refl,
     )
 
 pub returns-clause-err_stands : goal.returns-clause-err_stands

@@ -1,5 +1,5 @@
 -- The visit decides, and keeps the world sound.
-use Rattle.std.proofs.Common.{ℕ, Ok}
+use Rattle.std.proofs.Common.{ℕ, Ok, refl}
 use Rattle.moka_hist.specs.declared.accesses.Want.TheVariants as want
 use Rattle.moka_hist.specs.declared.visits.Visit.TheVariants as visit
 use Rattle.moka_kept.proofs.Reached.{gives_all, none_then}
@@ -18,4 +18,5 @@ returns-clause-keeps g c =
     let fits = c.requires.fits in (
       c.retire.ensures.call,
       none_then g.K.PartialEq.eq {F = ℕ} (Ok c.retire.result) c.args.self.now.layers c.retire.new.self (fits.0, fits.1.ground) c.retire.ensures.decides tt tt,
+      refl,
     )

@@ -1,6 +1,7 @@
 use Rattle.std.proofs.Common.{◌∙◌, ◌+◌, ◌≤◌, ap, arith, sym}
 use Rattle.moka_shared.specs.Hashing.{hash_in, place_in}
-use Rattle.moka_shared.proofs.Drawing.{above_other, door_seen, last_rises, last_seen, segments_now, sum_small}
+use Rattle.moka_history.proofs.Lists.{one_item}
+use Rattle.moka_shared.proofs.Drawing.{above_other, door_seen, first_drawn, last_rises, last_seen, segments_now, sum_small}
 use Rattle.moka_shared.proofs.table.HashMap.announce_for.Goals as goal
 
 pub announce-requires-clause-next : goal.announce-requires-clause-next
@@ -54,3 +55,14 @@ returns-in-Err-clause-missed g c =
     let low : c.drawn-drawn.result ≤ c.in-Err.found = omega (arith, more, last, now) in
     let less = above_other c.drawn-drawn.result c.in-Err.found low c.in-Err.ensures.other in
     (omega (arith, rises, is, last, less), omega (arith, now, is))
+
+pub announce-requires-clause-grown : goal.announce-requires-clause-grown
+announce-requires-clause-grown g c = λ n is.
+    let eq = g.K.PartialEq.eq in
+    let hash = hash_in g.S.BuildHasher g.S.Hasher.Hasher g.K.Hash.hash_input in
+    let place = place_in g.S.BuildHasher g.S.Hasher.Hasher g.K.Hash.hash_input in
+    let t = c.args.self.now in
+    let log = c.drawn-drawn.ensures.goes_on.is_log in
+    let below = first_drawn eq hash place t c.drawn-drawn.new.front.log log c.args.segment c.requires.segment in
+    let same = one_item is in
+    omega (arith, below, same)

@@ -17,7 +17,7 @@ loop-index-init g c =
     let equals = divided g.S.BuildHasher g.S.Hasher.Hasher g.K.Hash.hash_input eq g.met.K.Eq.laws g.met.K.Hash.respects_eq in
     let t = c.args.self.now in
     let old = c.args.front.now.log in
-    let well = subst (λ s. IsTable s c.self.inside.start.log c.self.inside.door c.self.inside.buckets.items c.self.inside.nexts.items (g.L.Shelf.owner c.self.inside.shelf)) c.self.view_is c.self.invariant in
+    let well = subst (λ s. IsTable s c.self.inside.start.log c.self.inside.door c.self.inside.buckets.items c.self.inside.nexts.items c.self.inside.roots.items (g.L.Shelf.owner c.self.inside.shelf)) c.self.view_is c.self.invariant in
     record {
       few = omega arith;
       low = omega arith;

@@ -9,7 +9,7 @@ use Rattle.moka_shared.proofs.table.HashMap.drawn.Goals as goal
 pub look-requires : goal.look-requires
 look-requires g c =
     let t = c.args.self.now in
-    let well = subst (λ s. IsTable s c.self.inside.start.log c.self.inside.door c.self.inside.buckets.items c.self.inside.nexts.items (g.L.Shelf.owner c.self.inside.shelf)) c.self.view_is c.self.invariant in
+    let well = subst (λ s. IsTable s c.self.inside.start.log c.self.inside.door c.self.inside.buckets.items c.self.inside.nexts.items c.self.inside.roots.items (g.L.Shelf.owner c.self.inside.shelf)) c.self.view_is c.self.invariant in
     record {
       book = (ap (λ w. w.tracked) well.door_is, ap (λ w. w.book) well.door_is ∙ sym c.requires.book);
       some = opened_some t.segments t.size t.hasher c.args.front.now.log c.requires.log.opened;
@@ -22,7 +22,7 @@ returns-clause-goes_on g c =
     let hash = hash_in g.S.BuildHasher g.S.Hasher.Hasher g.K.Hash.hash_input in
     let place = place_in g.S.BuildHasher g.S.Hasher.Hasher g.K.Hash.hash_input in
     let t = c.args.self.now in
-    let well = subst (λ s. IsTable s c.self.inside.start.log c.self.inside.door c.self.inside.buckets.items c.self.inside.nexts.items (g.L.Shelf.owner c.self.inside.shelf)) c.self.view_is c.self.invariant in
+    let well = subst (λ s. IsTable s c.self.inside.start.log c.self.inside.door c.self.inside.buckets.items c.self.inside.nexts.items c.self.inside.roots.items (g.L.Shelf.owner c.self.inside.shelf)) c.self.view_is c.self.invariant in
     let sees = subst (λ k. Sees eq hash place k c.look.result c.args.front.now.log c.look.new.front.log) (ap (λ w. w.key) well.door_is) c.look.ensures.sees in
     door_seen eq hash place t c.args.front.now.log c.look.new.front.log c.requires.log c.look.result sees
 
@@ -32,7 +32,7 @@ returns-clause-last g c =
     let hash = hash_in g.S.BuildHasher g.S.Hasher.Hasher g.K.Hash.hash_input in
     let place = place_in g.S.BuildHasher g.S.Hasher.Hasher g.K.Hash.hash_input in
     let t = c.args.self.now in
-    let well = subst (λ s. IsTable s c.self.inside.start.log c.self.inside.door c.self.inside.buckets.items c.self.inside.nexts.items (g.L.Shelf.owner c.self.inside.shelf)) c.self.view_is c.self.invariant in
+    let well = subst (λ s. IsTable s c.self.inside.start.log c.self.inside.door c.self.inside.buckets.items c.self.inside.nexts.items c.self.inside.roots.items (g.L.Shelf.owner c.self.inside.shelf)) c.self.view_is c.self.invariant in
     let sees = subst (λ k. Sees eq hash place k c.look.result c.args.front.now.log c.look.new.front.log) (ap (λ w. w.key) well.door_is) c.look.ensures.sees in
     last_seen eq hash place t c.args.front.now.log c.look.new.front.log c.requires.log c.look.result sees
 
@@ -42,6 +42,6 @@ returns-clause-small g c =
     let hash = hash_in g.S.BuildHasher g.S.Hasher.Hasher g.K.Hash.hash_input in
     let place = place_in g.S.BuildHasher g.S.Hasher.Hasher g.K.Hash.hash_input in
     let t = c.args.self.now in
-    let well = subst (λ s. IsTable s c.self.inside.start.log c.self.inside.door c.self.inside.buckets.items c.self.inside.nexts.items (g.L.Shelf.owner c.self.inside.shelf)) c.self.view_is c.self.invariant in
+    let well = subst (λ s. IsTable s c.self.inside.start.log c.self.inside.door c.self.inside.buckets.items c.self.inside.nexts.items c.self.inside.roots.items (g.L.Shelf.owner c.self.inside.shelf)) c.self.view_is c.self.invariant in
     let sees = subst (λ k. Sees eq hash place k c.look.result c.args.front.now.log c.look.new.front.log) (ap (λ w. w.key) well.door_is) c.look.ensures.sees in
     sum_small eq hash place t c.args.front.now.log c.look.new.front.log c.requires.log c.look.result sees

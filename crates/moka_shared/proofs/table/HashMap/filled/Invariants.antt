@@ -4,12 +4,11 @@ use Rattle.std.specs.Prelude.{IsSome, vec_capacity}
 use Rattle.moka_history.specs.Logs.{state_of}
 use Rattle.moka_shared.specs.Hashing.{hash_in, place_in}
 use Rattle.moka_shared.specs.Probing.{GoesOn}
-use Rattle.moka_shared.specs.Rows.{AreRow}
+use Rattle.moka_shared.specs.Rows.{AreRow, IsBehind}
 use Rattle.moka_shared.proofs.table.HashMap.filled.Given as goal
 
 abbrev pub invariant-loop-made : goal.invariant-loop-made
 invariant-loop-made g l = record {
-  some : 1 ≤ l.made;
   few : l.made ≤ l.size;
   room : l.size ≤ vec_capacity l.words;
   book : l.front.book ≡ l.fn.front.book;
@@ -17,6 +16,7 @@ invariant-loop-made g l = record {
       l.self l.fn.front.log l.front.log;
   planned : IsSome ((state_of l.front.log).plans l.ticket);
   row : AreRow l.self.book l.ticket l.words.items l.front.log;
+  behind : IsBehind l.self.book l.ticket l.words.items l.behind l.front.log;
   count : length l.words.items ≡ l.made;
 }
 

@@ -49,7 +49,7 @@ returns-in-Full-clause-puts g c =
       record { mine = refl; none = inl refl },
       (
         size_is,
-        filled eq hash place equals t key own_below c.args.hash c.requires.hash c.seek-ended.new.front.log c.seek-ended.ensures.goes_on.is_log probed
+        filled eq hash place equals t key own_below c.args.hash c.requires.hash c.seek-ended.new.front.log c.seek-ended.ensures.goes_on.is_log probed.0
             (segment_of t.segments c.args.hash) c.self.inside.size (ap (segment_of t.segments) c.requires.hash) size_is,
       ),
     )

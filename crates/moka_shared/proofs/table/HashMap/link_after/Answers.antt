@@ -1,6 +1,6 @@
 use Rattle.std.proofs.Common.{◌≡◌, ◌∙◌, Some, length, subst, suc, sym}
 use Rattle.moka_growth.specs.Growing.{next_size}
-use Rattle.moka_history.proofs.Lists.{map_length}
+use Rattle.moka_history.proofs.Lists.{map_length, prefix_self}
 use Rattle.moka_shared.specs.Hashing.{hash_in, place_in}
 use Rattle.moka_shared.proofs.Divided.{divided}
 use Rattle.moka_shared.proofs.Walking.{walked_wants}
@@ -27,3 +27,6 @@ returns-then-len-size-clause-links g c =
       λ same. c.if-len-size.true (c.len.ensures ∙ (words.ok.0 ∙ (sym (map_length (λ w. w.key) words.items) ∙ same))),
       (c.args.stored, c.requires.sealed, size_is),
     )
+
+pub returns-then-len-size-clause-goes_on : goal.returns-then-len-size-clause-goes_on
+returns-then-len-size-clause-goes_on g c = record { begins = prefix_self c.args.front.now.log; is_log = c.requires.log }

@@ -6,12 +6,12 @@ use Rattle.moka_shared.proofs.table.HashMap.next.Goals as goal
 pub index-requires : goal.index-requires
 index-requires g c =
     let nexts = c.self.inside.nexts.items in
-    let well = subst (λ s. IsTable s c.self.inside.start.log c.self.inside.door c.self.inside.buckets.items nexts (g.L.Shelf.owner c.self.inside.shelf)) c.self.view_is c.self.invariant in
+    let well = subst (λ s. IsTable s c.self.inside.start.log c.self.inside.door c.self.inside.buckets.items nexts c.self.inside.roots.items (g.L.Shelf.owner c.self.inside.shelf)) c.self.view_is c.self.invariant in
     subst (λ n. c.args.segment < n) (sym (c.self.inside.nexts.ok.0 ∙ well.nexts_are.count_is)) c.requires.segment
 
 pub returns : goal.returns
 returns g c =
     let t = c.args.self.now in
     let nexts = c.self.inside.nexts.items in
-    let well = subst (λ s. IsTable s c.self.inside.start.log c.self.inside.door c.self.inside.buckets.items nexts (g.L.Shelf.owner c.self.inside.shelf)) c.self.view_is c.self.invariant in
+    let well = subst (λ s. IsTable s c.self.inside.start.log c.self.inside.door c.self.inside.buckets.items nexts c.self.inside.roots.items (g.L.Shelf.owner c.self.inside.shelf)) c.self.view_is c.self.invariant in
     word_read t.book (1 + t.segments * t.size) t.segments nexts c.args.segment c.args.segment c.index.result.now well.nexts_are c.requires.segment refl c.index.ensures

@@ -34,6 +34,11 @@ invariant_of-result g c =
     let count = c.in_ok-count.ensures.count in
     let more_next : more.next ≡ 1 + t.segments * t.size = omega (arith, past, next, count) in
     let nexts = c.in_ok-nexts.nexts.items in
+    let last = c.make_words-2.new.pens in
+    let last_book : last.book ≡ c.open_row-start.result.0.book = c.in_ok-nexts.ensures.book ∙ more_book in
+    let past_nexts = c.in_ok-nexts.ensures.next in
+    let last_next : last.next ≡ 1 + t.segments * t.size + t.segments = omega (arith, past_nexts, more_next) in
+    let roots = c.in_ok-roots.roots.items in
     record {
       begun = row.1;
       some = c.requires.some;
@@ -45,5 +50,7 @@ invariant_of-result g c =
           (subst (λ n. AreWords pens.book pens.next n buckets) count c.in_ok-buckets.ensures.words));
       nexts_are = subst (λ b. AreWords b (1 + t.segments * t.size) t.segments nexts) more_book
           (subst (λ n. AreWords more.book n t.segments nexts) more_next c.in_ok-nexts.ensures.words);
+      roots_are = subst (λ b. AreWords b (1 + t.segments * t.size + t.segments) t.segments roots) last_book
+          (subst (λ n. AreWords last.book n t.segments roots) last_next c.in_ok-roots.ensures.words);
       owner_is = search rules;
     }

@@ -23,7 +23,7 @@ learn-requires g c = ap (λ t. t.book) c.self.view_is ∙ sym c.requires.seat
 pub seek-ended-requires : goal.seek-ended-requires
 seek-ended-requires g c =
     let t = c.args.self.now in
-    let well = subst (λ s. IsTable s c.self.inside.start.log c.self.inside.door c.self.inside.buckets.items c.self.inside.nexts.items (g.L.Shelf.owner c.self.inside.shelf)) c.self.view_is c.self.invariant in
+    let well = subst (λ s. IsTable s c.self.inside.start.log c.self.inside.door c.self.inside.buckets.items c.self.inside.nexts.items c.self.inside.roots.items (g.L.Shelf.owner c.self.inside.shelf)) c.self.view_is c.self.invariant in
     let learned = c.learn.ensures in
     record {
       callable = c.requires.callable;
